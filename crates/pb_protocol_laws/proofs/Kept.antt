@@ -28,7 +28,7 @@ no_listed (Some f) e = cc
 pub record Kept (spec : Spec) (known : Signatures) (text : ProtocolForm) : Type 0 where
   pub names : names_faults text ≡ []
   pub steps : first_fault (step_fault (outermost spec known)) text.steps ≡ None
-  pub initial : initial_fault spec text.variables text.initial ≡ None
+  pub initial : initial_fault spec known text.variables text.initial ≡ None
   pub properties : first_fault (property_fault (steps_of spec text) (outermost spec known)) text.properties ≡ None
 
 pub declared : (text : ProtocolForm) → protocol_faults text ≡ [] → data_faults text ≡ []
@@ -43,5 +43,5 @@ kept text e =
     let b = no_parts (listed (definitions_fault spec (state_of spec text) text.definitions)) _ a.1 in
     let c = no_parts (lists_faults spec known text) (listed (parts_fault spec known text)) b.1 in
     let others = no_either (first_fault (step_fault (outermost spec known)) text.steps) _ (no_listed (parts_fault spec known text) c.1) in
-    let last = no_either (initial_fault spec text.variables text.initial) _ others.1 in
+    let last = no_either (initial_fault spec known text.variables text.initial) _ others.1 in
     record { names = a.0; steps = others.0; initial = last.0; properties = last.1 }

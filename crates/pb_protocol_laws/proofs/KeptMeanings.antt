@@ -1,11 +1,12 @@
 -- In wider ranges of elements alone, terms have the values and steps lead where they did.
-use Rattle.std.proofs.Common.{◌≡◌, Bool, true, not, ◌&&◌, ◌||◌, if◌then◌else◌, List, [], ◌∷◌, ◌++◌, map, flat_map, length, drop, Some, None, refl, ap, ◌∙◌}
+use Rattle.std.proofs.Common.{◌≡◌, ℕ, pos, Bool, true, not, ◌&&◌, ◌||◌, if◌then◌else◌, List, [], ◌∷◌, ◌++◌, map, flat_map, length, drop, Some, None, refl, ap, ◌∙◌}
 use Rattle.std.specs.Prelude.{Option, neg_ℤ, filter}
 use Rattle.std.specs.Ordering.{int_eq}
 use Rattle.std.proofs.Math.Path.{fun_ext}
 use Rattle.std.proofs.lemmas.Bool.{and_parts, and_from}
 use Rattle.pb_text_tree.specs.declared.operator.Quantifier.{Quantifier}
 use Rattle.pb_base_values.specs.Carrier.{Value, Carrier, Tuple, of_bool, contains, is_within, tuples}
+use Rattle.pb_text_counting.specs.Counting.{is_counting}
 use Rattle.pb_text_meaning.specs.Syntax.{Name, same_name, Variable, Term, Terms, Range, Spec}
 use Rattle.pb_text_meaning.specs.declared.function.NamedFunction.{NamedFunction}
 use Rattle.pb_text_meaning.specs.Functions.{named_function}
@@ -17,8 +18,9 @@ use Rattle.pb_text_meaning.specs.Value as data_value
 use Rattle.pb_model_meaning.specs.Steps.{State}
 use Rattle.pb_model_wider_ranges.specs.Ranges.{IsContained, AreUnchanged, IsUnchanged, IsEachUnchanged}
 use Rattle.pb_protocol_meaning.specs.Syntax.{StateVariable, Definition, Assignment, Step, StepSet, Protocol}
-use Rattle.pb_protocol_meaning.specs.Meaning.{Functions, no_functions, named_meaning, applied_meaning, given_arguments, meaning, meanings, are_as_many, with_definition, with_definitions, same_values, all_inside, value_beside}
-use Rattle.pb_protocol_meaning.specs.Steps.{data_of, Position, positions_of, positions, is_state, variables_at, functions_at, value_at, values_at, initial_values, initial_state, value_after, state_after, own_values, is_enabled, next_state, fits, has_step, successors_by, successors}
+use Rattle.pb_protocol_meaning.specs.Meaning.{Functions, no_functions, named_meaning, applied_meaning, given_arguments, meaning, meanings, count, count_of, for_each, true_count, are_as_many, with_definition, with_definitions, all_inside, value_beside}
+use Rattle.pb_protocol_meaning.specs.Steps.{data_of, Position, positions_of, positions, is_state, variables_at, functions_at, value_at, values_at, functions_at_start, initial_values, initial_state}
+use Rattle.pb_protocol_meaning.specs.Steps.{Update, update_by, updates_by, updates, state_after, own_values, is_enabled, next_state, fits, has_step, successors_by, successors}
 use Rattle.pb_protocol_laws.specs.WiderProtocols.{in_ranges, AreElementsContained, AreDefinitionsUnchanged, AreAssignmentsKept, IsStepKept, AreStepsKept, AreNamedValuesKept, IsSetKept}
 
 module _ (m : Protocol) (ranges : List Range) where
@@ -64,6 +66,12 @@ module _ (m : Protocol) (ranges : List Range) where
   applied-kept (Some v) f vs = refl
   applied-kept None f vs = function-kept f vs
 
+  for-each-kept : {A : Type 0} (xs : List Variable) (f : data_value.Assignment → A) → AreUnchanged d e xs → (a : data_value.Assignment) → for_each e xs f a ≡ for_each d xs f a
+  for-each-kept [] f u a = refl
+  for-each-kept {A} (x ∷ xs) f u a =
+      ap (λ (vs : Carrier). flat_map (λ (v : Value). for_each e xs f ((x.name, v) ∷ a)) vs) u.0
+      ∙ ap (λ (g : Value → List A). flat_map g (carrier_of d x.sort)) (fun_ext (λ v. for-each-kept xs f u.1 ((x.name, v) ∷ a)))
+
   mutual
     meaning-kept : (functions : Functions) (x : Term) → IsUnchanged d e x → (c : data_value.Assignment) → meaning e functions c x ≡ meaning d functions c x
     meaning-kept functions (Term.Truth b) u c = refl
@@ -74,8 +82,10 @@ module _ (m : Protocol) (ranges : List Range) where
     meaning-kept functions (Term.Binary o x y) u c =
         ap (λ v. binary o v (meaning e functions c y)) (meaning-kept functions x u.0 c) ∙ ap (binary o (meaning d functions c x)) (meaning-kept functions y u.1 c)
     meaning-kept functions (Term.Apply f xs) u c =
-        ap (λ (vs : Tuple). applied_meaning e (given_arguments functions f vs) f vs) (meanings-kept functions xs u c)
-        ∙ applied-kept (given_arguments functions f (meanings d functions c xs)) f (meanings d functions c xs)
+        ap (λ (n : ℕ). if is_counting f then pos n else applied_meaning e (given_arguments functions f (meanings e functions c xs)) f (meanings e functions c xs)) (count-kept functions xs u c)
+        ∙ ap (λ (v : Value). if is_counting f then pos (count d functions c xs) else v)
+        (ap (λ (vs : Tuple). applied_meaning e (given_arguments functions f vs) f vs) (meanings-kept functions xs u c)
+        ∙ applied-kept (given_arguments functions f (meanings d functions c xs)) f (meanings d functions c xs))
     meaning-kept functions (Term.Quantified q xs x) u c =
         ap of_bool (ap (λ (p : data_value.Assignment → Bool). quantified e q xs p c) (fun_ext (λ b. ap is_true (meaning-kept functions x u.1 b)))
         ∙ quantified-kept q xs (λ b. is_true (meaning d functions b x)) u.0 c)
@@ -84,6 +94,16 @@ module _ (m : Protocol) (ranges : List Range) where
     meanings-kept functions Terms.NoTerms u c = refl
     meanings-kept functions (Terms.Then x xs) u c =
         ap (λ v. v ∷ meanings e functions c xs) (meaning-kept functions x u.0 c) ∙ ap (λ vs. meaning d functions c x ∷ vs) (meanings-kept functions xs u.1 c)
+
+    count-kept : (functions : Functions) (xs : Terms) → IsEachUnchanged d e xs → (c : data_value.Assignment) → count e functions c xs ≡ count d functions c xs
+    count-kept functions Terms.NoTerms u c = refl
+    count-kept functions (Terms.Then x xs) u c = count-of-kept functions x u.0 c
+
+    count-of-kept : (functions : Functions) (x : Term) → IsUnchanged d e x → (c : data_value.Assignment) → count_of e functions c x ≡ count_of d functions c x
+    count-of-kept functions (Term.Quantified q xs x) u c =
+        ap true_count (ap (λ (p : data_value.Assignment → Bool). for_each e xs p c) (fun_ext (λ b. ap is_true (meaning-kept functions x u.1 b)))
+        ∙ for-each-kept xs (λ b. is_true (meaning d functions b x)) u.0 c)
+    count-of-kept functions _ u c = refl
 
   -- ---- definitions and elements
 
@@ -142,16 +162,22 @@ module _ (m : Protocol) (ranges : List Range) where
       ap (λ (ps : List Position). is_within (map (λ (p : Position). carrier_of e p.sort) ps) s) (positions-kept m.variables u)
       ∙ within-wider (positions m) (positions-wider m.variables u) s k
 
-  initial-kept : (ys : List StateVariable) (xs : Terms) → AreElementsContained d e ys → IsEachUnchanged d e xs → initial_values e ys xs ≡ initial_values d ys xs
-  initial-kept [] xs u v = refl
-  initial-kept (y ∷ ys) Terms.NoTerms u v = refl
-  initial-kept (y ∷ ys) (Terms.Then x xs) u v =
-      ap (λ (cs : List Carrier). map (λ (index : Tuple). meaning e no_functions (assigned y.indices index []) x) (tuples cs) ++ initial_values e ys xs) (carriers-kept y.indices u.0)
-      ∙ ap (λ (g : Tuple → Value). map g (tuples (carriers_of d y.indices)) ++ initial_values e ys xs) (fun_ext (λ index. meaning-kept no_functions x v.0 (assigned y.indices index [])))
-      ∙ ap (λ (s : State). map (λ (index : Tuple). meaning d no_functions (assigned y.indices index []) x) (tuples (carriers_of d y.indices)) ++ s) (initial-kept ys xs u.2 v.1)
+  initial-kept : (functions : Functions) (ys : List StateVariable) (xs : Terms) → AreElementsContained d e ys → IsEachUnchanged d e xs
+      → initial_values e functions ys xs ≡ initial_values d functions ys xs
+  initial-kept functions [] xs u v = refl
+  initial-kept functions (y ∷ ys) Terms.NoTerms u v = refl
+  initial-kept functions (y ∷ ys) (Terms.Then x xs) u v =
+      ap (λ (cs : List Carrier). map (λ (index : Tuple). meaning e functions (assigned y.indices index []) x) (tuples cs) ++ initial_values e functions ys xs) (carriers-kept y.indices u.0)
+      ∙ ap (λ (g : Tuple → Value). map g (tuples (carriers_of d y.indices)) ++ initial_values e functions ys xs) (fun_ext (λ index. meaning-kept functions x v.0 (assigned y.indices index [])))
+      ∙ ap (λ (s : State). map (λ (index : Tuple). meaning d functions (assigned y.indices index []) x) (tuples (carriers_of d y.indices)) ++ s) (initial-kept functions ys xs u.2 v.1)
 
-  pub begins-kept : AreElementsContained d e m.variables → IsEachUnchanged d e m.initial → initial_state w ≡ initial_state m
-  begins-kept u v = initial-kept m.variables m.initial u v
+  -- where there is no state
+  start-kept : AreDefinitionsUnchanged d e m.definitions → functions_at_start w ≡ functions_at_start m
+  start-kept u = definitions-kept no_functions m.definitions u
+
+  pub begins-kept : AreElementsContained d e m.variables → AreDefinitionsUnchanged d e m.definitions → IsEachUnchanged d e m.initial → initial_state w ≡ initial_state m
+  begins-kept u definitions v =
+      ap (λ (g : Functions). initial_values e g m.variables m.initial) (start-kept definitions) ∙ initial-kept (functions_at_start m) m.variables m.initial u v
 
   -- ---- at a state
 
@@ -166,28 +192,25 @@ module _ (m : Protocol) (ranges : List Range) where
     values-kept : (s : State) (c : data_value.Assignment) (xs : Terms) → IsEachUnchanged d e xs → values_at w s c xs ≡ values_at m s c xs
     values-kept s c xs u = ap (λ (g : Functions). meanings e g c xs) (functions-kept s) ∙ meanings-kept (functions_at m s) xs u c
 
-    after-kept : (s : State) (c : data_value.Assignment) (list : List Assignment) → AreAssignmentsKept d e list → (x : Name) (index : Tuple) (v : Value)
-        → value_after (value_at w s c) (values_at w s c) list x index v ≡ value_after (value_at m s c) (values_at m s c) list x index v
-    after-kept s c [] u x index v = refl
-    after-kept s c (a ∷ list) u x index v =
-        ap (λ (is : Tuple). value_after (value_at w s c) (values_at w s c) list x index
-        (if same_name a.variable x && same_values is index then value_at w s c a.term else v)) (values-kept s c a.index u.0)
-        ∙ ap (λ (t : Value). value_after (value_at w s c) (values_at w s c) list x index
-        (if same_name a.variable x && same_values (values_at m s c a.index) index then t else v)) (value-kept s c a.term u.1)
-        ∙ after-kept s c list u.2 x index (if same_name a.variable x && same_values (values_at m s c a.index) index then value_at m s c a.term else v)
+    update-kept : (s : State) (a : Assignment) → IsEachUnchanged d e a.index → IsUnchanged d e a.term → (c : data_value.Assignment)
+        → update_by e (functions_at w s) a c ≡ update_by d (functions_at m s) a c
+    update-kept s a u v c =
+        ap (λ (index : Tuple). let x : Update = record { variable = a.variable; index = index; value = value_at w s c a.term } in x) (values-kept s c a.index u)
+        ∙ ap (λ (t : Value). let x : Update = record { variable = a.variable; index = values_at m s c a.index; value = t } in x) (value-kept s c a.term v)
 
-    state-after-kept : (s : State) (c : data_value.Assignment) (list : List Assignment) → AreAssignmentsKept d e list → (ps : List Position) (t : State)
-        → state_after (value_at w s c) (values_at w s c) list ps t ≡ state_after (value_at m s c) (values_at m s c) list ps t
-    state-after-kept s c list u [] t = refl
-    state-after-kept s c list u (p ∷ ps) [] = refl
-    state-after-kept s c list u (p ∷ ps) (v ∷ t) =
-        ap (λ y. y ∷ state_after (value_at w s c) (values_at w s c) list ps t) (after-kept s c list u p.variable p.index v)
-        ∙ ap (λ ys. value_after (value_at m s c) (values_at m s c) list p.variable p.index v ∷ ys) (state-after-kept s c list u ps t)
+    updates-kept : (s : State) (c : data_value.Assignment) (list : List Assignment) → AreAssignmentsKept d e list
+        → updates e (functions_at w s) c list ≡ updates d (functions_at m s) c list
+    updates-kept s c [] u = refl
+    updates-kept s c (a ∷ list) u =
+        ap (λ (us : List Update). us ++ updates e (functions_at w s) c list)
+        (for-each-kept a.variables (update_by e (functions_at w s) a) u.0 c
+        ∙ ap (λ (g : data_value.Assignment → Update). for_each d a.variables g c) (fun_ext (update-kept s a u.1 u.2)))
+        ∙ ap (λ (us : List Update). updates_by d (functions_at m s) c a ++ us) (updates-kept s c list u.3)
 
     next-kept : (s : State) (a : Step) → IsStepKept d e a → (own : Tuple) → next_state w s a own ≡ next_state m s a own
     next-kept s a u own =
-        ap (λ (ps : List Position). state_after (value_at w s (own_values a own)) (values_at w s (own_values a own)) a.assignments ps s) (positions-kept m.variables variables)
-        ∙ state-after-kept s (own_values a own) a.assignments u.assignments (positions m) s
+        ap (λ (ps : List Position). state_after (updates e (functions_at w s) (own_values a own) a.assignments) ps s) (positions-kept m.variables variables)
+        ∙ ap (λ (us : List Update). state_after us (positions m) s) (updates-kept s (own_values a own) a.assignments u.assignments)
 
     -- ---- sets of steps
 
@@ -197,7 +220,8 @@ module _ (m : Protocol) (ranges : List Range) where
     fits-kept c (Some x ∷ xs) u [] = refl
     fits-kept c (None ∷ xs) u [] = refl
     fits-kept c (Some x ∷ xs) u (v ∷ own) =
-        ap (λ y. int_eq y v && fits w c xs own) (meaning-kept no_functions x u.0 c) ∙ ap (λ b. int_eq (meaning d no_functions c x) v && b) (fits-kept c xs u.1 own)
+        ap (λ y. int_eq y v && fits w c xs own) (ap (λ (g : Functions). meaning e g c x) (start-kept definitions) ∙ meaning-kept (functions_at_start m) x u.0 c)
+        ∙ ap (λ b. int_eq (meaning d (functions_at_start m) c x) v && b) (fits-kept c xs u.1 own)
     fits-kept c (None ∷ xs) u (v ∷ own) = fits-kept c xs u own
 
     set-kept : (c : data_value.Assignment) (A : StepSet) → IsSetKept d e A → (x : Name) (own : Tuple) → has_step w c A x own ≡ has_step m c A x own

@@ -13,12 +13,14 @@ pub mod States
 pub mod Models
 pub mod Packed
 pub mod Moves
+mod OwnValues
 mod NamedSteps
 pub mod Words
 pub mod PlainWords
 pub mod Spelled
 pub mod Folded
 pub mod Unfolded
+mod SettledWords
 pub mod FlatModels
 pub mod Digits
 pub mod PackedWords

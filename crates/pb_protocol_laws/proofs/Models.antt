@@ -26,12 +26,12 @@ twice f g [] = refl
 twice f g (x ∷ xs) = ap (λ ys. g (f x) ∷ ys) (twice f g xs)
 
 pub plain_models_are_solved : PlainModelsKeepTheirMeaning → PlainModelsAreSolved
-plain_models_are_solved law protocol m is_plain made named =
+plain_models_are_solved law protocol m is_plain counts made named =
     let keeps = law (model_text.erase m) is_plain in
     record {
       properties = are_plain protocol m plain_formula
-          (λ f. subst (λ (x : Protocol). satisfies x (plain_formula f) ≡ model_satisfaction.satisfies (model_text.erase m) f) (sym made) (keeps.3 f))
-          protocol.properties m.properties named (ap (λ (x : Protocol). x.properties) made);
+          (λ f none. subst (λ (x : Protocol). satisfies x (plain_formula f) ≡ model_satisfaction.satisfies (model_text.erase m) f) (sym made) (keeps.3 f none))
+          protocol.properties m.properties counts named (ap (λ (x : Protocol). x.properties) made);
       runs = subst (λ (x : Protocol). GoesAlong x (model_text.erase m) itself) (sym made)
           (goes_along (plain (model_text.erase m)) (model_text.erase m) (λ s. sym (keeps.1 s)) (sym keeps.0) (λ s is. sym (keeps.2 model.StepSet.All s is)));
     }

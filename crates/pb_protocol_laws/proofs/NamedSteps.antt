@@ -15,14 +15,12 @@ use Rattle.pb_protocol_folding.specs.Names.{IsNot, AreDistinct, AreNot, names_of
 use Rattle.pb_protocol_folding.proofs.FoldedModels.{same-self, folding_keeps_steps}
 use Rattle.pb_protocol_meaning.specs.Syntax as protocol
 use Rattle.pb_protocol_meaning.specs.Syntax.{Protocol, StepSet}
-use Rattle.pb_protocol_meaning.specs.Meaning.{no_functions}
 use Rattle.pb_protocol_meaning.specs.Steps.{data_of, fits, successors}
 use Rattle.pb_protocol_unfolding.specs.PutIn.{TermScope}
 use Rattle.pb_protocol_unfolding.specs.Unfolding.{Element, Instance, instances, instance_name, all_elements, name_of, variable_of, variables_of, written, unfolded, unfolded_assignment, unfolded_set, unfolded_step, named_steps, is_in_set, values_of}
 use Rattle.pb_protocol_unfolding.specs.Hygiene.{HidesNothing}
 use Rattle.pb_protocol_unfolding.specs.ModelLaws.{flat_model, StepsAreUnfolded}
 use Rattle.pb_protocol_unfolding.specs.Plain.{plain, PlainModelsKeepTheirMeaning}
-use Rattle.pb_protocol_unfolding.proofs.PlainModels.{meaning-same}
 use Rattle.pb_protocol_unfolding.proofs.States.{carriers-same}
 use Rattle.pb_protocol_unfolding.proofs.WrittenLaws.{value-self}
 use Rattle.pb_protocol_packing.specs.Groups.{groups_of, packed}
@@ -31,6 +29,7 @@ use Rattle.pb_protocol_packing.specs.Unpacked.{unpacked}
 use Rattle.pb_protocol_packing.specs.Unpacked as packed_states
 use Rattle.pb_protocol_laws.specs.NamedSteps.{PlainModelsGoByNames, UnfoldedModelsGoByNames, PackedModelsGoByNames}
 use Rattle.pb_protocol_laws.specs.NamedSteps.{FlatStepsAreInstances, EachFlatStepIsAnInstance, InstancesAreApart}
+use Rattle.pb_protocol_laws.proofs.OwnValues.{AreThemselves, own-themselves}
 use Rattle.pb_protocol_laws.proofs.Packed.{StatesSayStates}
 use Rattle.pb_protocol_laws.proofs.States.{stands_through}
 
@@ -101,24 +100,22 @@ more-lead m A B more s t h =
 
 module _ (m : Protocol) where
   -- written values are the ones that they are
-  fits-itself : (ks : List Term) → fits m [] (map Some ks) (values_of m ks) ≡ true
-  fits-itself [] = refl
-  fits-itself (k ∷ ks) =
-      both-true _ (fits m [] (map Some ks) (values_of m ks))
-      (ap (λ v. int_eq v (value (data_of m) [] k)) (meaning-same (data_of m) no_functions [] (record { bare = λ x. refl; applied = λ f v vs. refl }) k [])
-      ∙ value-self (value (data_of m) [] k))
-      (fits-itself ks)
+  fits-itself : (ks : List Term) → AreThemselves m ks → fits m [] (map Some ks) (values_of m ks) ≡ true
+  fits-itself [] h = refl
+  fits-itself (k ∷ ks) h =
+      both-true _ (fits m [] (map Some ks) (values_of m ks)) (ap (λ v. int_eq v (value (data_of m) [] k)) h.0 ∙ value-self (value (data_of m) [] k)) (fits-itself ks h.1)
 
   -- the step of an instance, by its values
   abbrev by_values : Instance → StepSet
   by_values i = StepSet.With i.step.name (map Some i.own)
 
-  is-in-its-set : (i : Instance) → is_in_set m [] (by_values i) i ≡ true
-  is-in-its-set i = both-true (same_name i.step.name i.step.name) (fits m [] (map Some i.own) (values_of m i.own)) (same-self i.step.name) (fits-itself i.own)
+  is-in-its-set : HidesNothing m → (i : Instance) → Contains (instances m) i → is_in_set m [] (by_values i) i ≡ true
+  is-in-its-set hides i among =
+      both-true (same_name i.step.name i.step.name) (fits m [] (map Some i.own) (values_of m i.own)) (same-self i.step.name) (fits-itself i.own (own-themselves m hides i among))
 
-  its-name : (i : Instance) → Contains (instances m) i → Contains (map instance_name (filter (is_in_set m [] (by_values i)) (instances m))) (instance_name i)
-  its-name i among =
-      mapped instance_name (filter (is_in_set m [] (by_values i)) (instances m)) i (passing (is_in_set m [] (by_values i)) (instances m) i among (is-in-its-set i))
+  its-name : HidesNothing m → (i : Instance) → Contains (instances m) i → Contains (map instance_name (filter (is_in_set m [] (by_values i)) (instances m))) (instance_name i)
+  its-name hides i among =
+      mapped instance_name (filter (is_in_set m [] (by_values i)) (instances m)) i (passing (is_in_set m [] (by_values i)) (instances m) i among (is-in-its-set hides i among))
 
   leads : HidesNothing m → StepsAreUnfolded → (i : Instance) → Contains (instances m) i → (s t : State)
       → Contains (model_steps.successors (flat_model m) (model.StepSet.Only (instance_name i)) s) t → Contains (successors m [] (by_values i) s) t
@@ -128,7 +125,7 @@ module _ (m : Protocol) where
       subst (λ (ts : List State). Contains ts t) (folding_keeps_steps (unfolded m) (hides-names m hides) only s).0 h in
       subst (λ (ts : List State). Contains ts t) (law m hides (by_values i) s)
       (more-lead (unfolded m) only (unfolded_set m [] (by_values i))
-      (λ x e. has-among (map instance_name (filter (is_in_set m [] (by_values i)) (instances m))) (instance_name i) x (its-name i among) e) s t unfolds)
+      (λ x e. has-among (map instance_name (filter (is_in_set m [] (by_values i)) (instances m))) (instance_name i) x (its-name hides i among) e) s t unfolds)
 
 pub unfolded_models_go_by_names : StepsAreUnfolded → UnfoldedModelsGoByNames
 unfolded_models_go_by_names law m hides x A s t stands within among =

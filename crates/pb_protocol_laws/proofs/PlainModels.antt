@@ -13,7 +13,7 @@ use Rattle.pb_protocol_tree.specs.Form.{StateVariableForm, AssignmentForm, StepF
 use Rattle.pb_protocol_meaning.specs.Syntax.{StateVariable, Assignment, Step, Protocol}
 use Rattle.pb_protocol_meaning.specs.Erase.{erase, erased_state_variable, erased_assignment, erased_step}
 use Rattle.pb_protocol_folding.specs.Names.{IsNot, AreDistinct, names_of, AssignOnce}
-use Rattle.pb_protocol_unfolding.specs.Plain.{plain, plain_variable, plain_assignment, plain_step, AreAsMany, IsPlain}
+use Rattle.pb_protocol_unfolding.specs.Plain.{plain, plain_variable, plain_assignment, plain_step, AreAsMany, IsPlain, ModelCountsNothing}
 use Rattle.pb_protocol_typing.specs.Fault.{fault_unless, first_fault}
 use Rattle.pb_protocol_typing.specs.Scopes.{Scope, inside, variables}
 use Rattle.pb_protocol_typing.specs.Terms.{condition_fault}
@@ -135,8 +135,8 @@ same-length f (x ∷ xs) = ap (λ n. suc n) (same-length f xs)
 
 -- ---- the whole
 
-pub plain_protocols_are_plain : (text : ProtocolForm) (m : flat.Model) → protocol_faults text ≡ [] → erase text ≡ plain m → IsPlain m
-plain_protocols_are_plain text m e is =
+pub plain_protocols_are_plain : (text : ProtocolForm) (m : flat.Model) → protocol_faults text ≡ [] → erase text ≡ plain m → ModelCountsNothing m → IsPlain m
+plain_protocols_are_plain text m e is counts =
     let spec = texts_of.erase (data_form text) in
     let parts = kept text e in
     let same_variables : map erased_state_variable text.variables ≡ map plain_variable m.variables = ap (λ (p : Protocol). p.variables) is in
@@ -151,4 +151,6 @@ plain_protocols_are_plain text m e is =
       variables = subst AreDistinct (ap (λ (ys : List StateVariable). map (λ (y : StateVariable). y.name) ys) same_variables ∙ plain-names m.variables) (state_variables_are_apart text e);
       assignments = plain-once m.steps (subst StepsAssignOnce same_steps once);
       initial = as-many m.variables m.initial (ap term_count (sym same_initial) ∙ (sym (counted text.initial.values) ∙ (sizes ∙ lengths)));
+      steps_count_nothing = counts.steps;
+      initial_counts_nothing = counts.initial;
     }

@@ -9,6 +9,7 @@ use Rattle.pb_protocol_tree.specs.Form.{PropertyForm, ProtocolForm}
 use Rattle.pb_protocol_meaning.specs.Syntax.{Formula, Property}
 use Rattle.pb_protocol_meaning.specs.Satisfaction.{satisfies}
 use Rattle.pb_protocol_meaning.specs.Erase.{erase, erased_formula, erased_property}
+use Rattle.pb_protocol_unfolding.specs.Plain.{FormulaCountsNothing, PropertiesCountNothing}
 use Rattle.pb_protocol_laws.specs.SolvedLaws.{property_names, model_property_names}
 use Rattle.pb_protocol_laws.specs.Solved.{AreSameProperties, IsSameProperty}
 
@@ -41,16 +42,17 @@ are_same protocol m g same (p ∷ ps) (q ∷ qs) named made =
       are_same protocol m g same ps qs others rest,
     )
 
--- where the protocol's formulas are those of the model, made others
+-- where the protocol's formulas are those of the model, made others, and nothing counts in them
 pub are_plain : (protocol : ProtocolForm) (m : ModelForm) (g : model.Formula → Formula)
-    → ((f : model.Formula) → satisfies (erase protocol) (g f) ≡ model_satisfaction.satisfies (model_text.erase m) f)
-    → (ps : List PropertyForm) (qs : List model_form.PropertyForm) → model_property_names qs ≡ property_names ps
+    → ((f : model.Formula) → FormulaCountsNothing f → satisfies (erase protocol) (g f) ≡ model_satisfaction.satisfies (model_text.erase m) f)
+    → (ps : List PropertyForm) (qs : List model_form.PropertyForm) → PropertiesCountNothing (map model_text.erased_property qs)
+    → model_property_names qs ≡ property_names ps
     → map erased_property ps ≡ map (plain_made g) (map model_text.erased_property qs)
     → AreSameProperties protocol m ps qs
-are_plain protocol m g same [] [] named made = tt
-are_plain protocol m g same [] (q ∷ qs) named made = absurd (cc named)
-are_plain protocol m g same (p ∷ ps) [] named made = absurd (cc named)
-are_plain protocol m g same (p ∷ ps) (q ∷ qs) named made =
+are_plain protocol m g same [] [] counts named made = tt
+are_plain protocol m g same [] (q ∷ qs) counts named made = absurd (cc named)
+are_plain protocol m g same (p ∷ ps) [] counts named made = absurd (cc named)
+are_plain protocol m g same (p ∷ ps) (q ∷ qs) counts named made =
     let name : q.name ≡ p.name = cc named in
     let others : model_property_names qs ≡ property_names ps = cc named in
     let here : erased_property p ≡ plain_made g (model_text.erased_property q) = cc made in
@@ -58,9 +60,9 @@ are_plain protocol m g same (p ∷ ps) (q ∷ qs) named made =
     let formula : erased_formula p.formula ≡ g (model_text.erased_formula q.formula) = ap (λ (x : Property). x.formula) here in (
       record {
         name = name;
-        satisfied = sym (same (model_text.erased_formula q.formula)) ∙ ap (satisfies (erase protocol)) (sym formula);
+        satisfied = sym (same (model_text.erased_formula q.formula) counts.0) ∙ ap (satisfies (erase protocol)) (sym formula);
       },
-      are_plain protocol m g same ps qs others rest,
+      are_plain protocol m g same ps qs counts.1 others rest,
     )
 
 -- a model that satisfies what another does, property by property

@@ -1,5 +1,5 @@
 -- Unfolding keeps words: elements have them, and terms that are put in for names.
-use Rattle.std.proofs.Common.{◌≡◌, ℕ, Bool, true, false, true≢false, if◌then◌else◌, inl, inr, List, [], ◌∷◌, ◌++◌, map, flat_map, refl, sym, ap, subst, arith}
+use Rattle.std.proofs.Common.{◌≡◌, ℕ, Bool, true, false, true≢false, if◌then◌else◌, ◌⊎◌, inl, inr, List, [], ◌∷◌, ◌++◌, map, flat_map, refl, sym, ap, subst, arith}
 use Rattle.std.specs.Prelude.{Option, Some, None, codes, ◌&&◌, decimal, nat_eq}
 use Rattle.std.specs.List.{list_all}
 use Rattle.std.proofs.lemmas.Bool.{or_cases}
@@ -7,7 +7,8 @@ use Rattle.std.proofs.lemmas.Bool.Decides.{nat_tests}
 use Rattle.pb_text_lexer.specs.Bytes.{word_kind, is_name_byte}
 use Rattle.pb_text_tree.specs.declared.operator.Quantifier.{Quantifier}
 use Rattle.pb_text_tree.specs.declared.operator.Quantifier.TheVariants.{Forall, Exists}
-use Rattle.pb_text_meaning.specs.Syntax.{Name, same_name, Variable, Term, Terms, Spec}
+use Rattle.pb_text_counting.specs.Counting.{is_counting}
+use Rattle.pb_text_meaning.specs.Syntax.{Name, same_name, Variable, Term, Terms, Operator, Spec}
 use Rattle.pb_text_meaning.specs.Sorts.{place_in}
 use Rattle.pb_text_printer.specs.Sayable.{Each}
 use Rattle.pb_model_meaning.specs.Syntax as flat
@@ -16,11 +17,11 @@ use Rattle.pb_protocol_meaning.specs.Syntax as protocol
 use Rattle.pb_protocol_meaning.specs.Steps.{data_of}
 use Rattle.pb_model_spelling.specs.Writable.{IsWord, VariableWritable, TermWritable, AllWritable, SomeWritable, ModalWritable, ModelWritable}
 use Rattle.pb_model_spelling.specs.Writable as model
-use Rattle.pb_model_spelling.specs.Protocols.{FormulaWritable, StateVariableWritable, DefinitionWritable, AssignmentWritable, StepWritable, ProtocolWritable}
+use Rattle.pb_model_spelling.specs.Protocols.{DataWritable, AllDataWritable, SomeDataWritable, FormulaWritable, StateVariableWritable, DefinitionWritable, AssignmentWritable, StepWritable, ProtocolWritable}
 use Rattle.pb_protocol_unfolding.specs.Written.{written_values, written_tuples, same_negative, same_written, is_written, spelled, element}
 use Rattle.pb_protocol_folding.proofs.FoldedModels.{same-names}
-use Rattle.pb_protocol_unfolding.specs.PutIn.{TermScope, term_of, standing, Forms, no_forms, joined, copies, enumerator_term, named_term, given_arguments, applied_term, put_in, all_put_in, choice, choices, chosen, are_as_many, read, reads, with_definition, with_definitions}
-use Rattle.pb_protocol_unfolding.specs.Unfolding.{Element, name_of, variable_of, elements_of, all_elements, forms_of, unfolded_term, terms_of, written, is_index, term_after, unfolded_assignment, Instance, instances_of, instances, unfolded_step, joined_formulas, unfolded_formula, unfolded_initial, unfolded}
+use Rattle.pb_protocol_unfolding.specs.PutIn.{TermScope, term_of, standing, Forms, no_forms, joined, copies, enumerator_term, named_term, given_arguments, applied_term, put_in, all_put_in, count_put_in, count_of_put_in, one_if, added, counted, choice, choices, chosen, are_as_many, read, reads, with_definition, with_definitions}
+use Rattle.pb_protocol_unfolding.specs.Unfolding.{Element, name_of, variable_of, elements_of, all_elements, forms_of, unfolded_term, terms_of, written, is_index, Copy, copies_of, all_copies, after_copies, forms_at_start, unfolded_assignment, Instance, instances_of, instances, unfolded_step, joined_formulas, unfolded_formula, unfolded_initial, unfolded}
 use Rattle.pb_protocol_laws.proofs.Words.{spelled_word}
 use Rattle.pb_protocol_laws.proofs.Spelled.{IsSpelled, SortsWritable, values-spelled, element-word, element_of-word}
 
@@ -89,6 +90,24 @@ joined-writable Exists [] h = tt
 joined-writable Forall (t ∷ ts) h = (h.0, joined-writable Forall ts h.1)
 joined-writable Exists (t ∷ ts) h = (h.0, joined-writable Exists ts h.1)
 
+-- 1 for each of these that is true
+one-writable : (t : Term) → TermWritable t → TermWritable (one_if t)
+one-writable t h = (if-word, (h, (omega arith, (omega arith, tt))))
+
+added-writable : (x : Term) (ts : List Term) → TermWritable x → Each TermWritable ts → TermWritable (added x ts)
+added-writable x [] h k = h
+added-writable x (t ∷ ts) h k = added-writable (Term.Binary Operator.Plus x (one_if t)) ts (h, one-writable t k.0) k.1
+
+counted-writable : (ts : List Term) → Each TermWritable ts → TermWritable (counted ts)
+counted-writable [] h = omega arith
+counted-writable (t ∷ ts) h = added-writable (one_if t) ts (one-writable t h.0) h.1
+
+-- what counts, or else what is applied by a word
+either-writable : (b : Bool) (t u : Term) (W : Type 0) → W ⊎ (b ≡ true) → TermWritable t → (W → TermWritable u) → TermWritable (if b then t else u)
+either-writable true t u W h counts applies = counts
+either-writable false t u W (inl w) counts applies = applies w
+either-writable false t u W (inr e) counts applies = absurd (true≢false (sym e))
+
 enumerator-writable : (o : Option ℕ) (x : Name) → IsWord x → TermWritable (enumerator_term o x)
 enumerator-writable (Some n) x h = h
 enumerator-writable None x h = omega arith
@@ -150,25 +169,41 @@ module _ (spec : Spec) (sorts : SortsWritable spec) where
 
   module _ (forms : Forms) (known : FormsWritable forms) where
     mutual
-      pub put-in-writable : (x : Term) (ρ : TermScope) → ScopeWritable ρ → TermWritable x → TermWritable (put_in spec forms ρ x)
+      pub put-in-writable : (x : Term) (ρ : TermScope) → ScopeWritable ρ → DataWritable x → TermWritable (put_in spec forms ρ x)
       put-in-writable (Term.Truth b) ρ k h = tt
       put-in-writable (Term.Number n) ρ k h = h
       put-in-writable (Term.Named x) ρ k h = named-writable spec (term_of ρ x) (forms x Terms.NoTerms) x (term-found ρ x k) (known x Terms.NoTerms h tt) h
       put-in-writable (Term.Not x) ρ k h = put-in-writable x ρ k h
       put-in-writable (Term.Negative x) ρ k h = put-in-writable x ρ k h
       put-in-writable (Term.Binary o x y) ρ k h = (put-in-writable x ρ k h.0, put-in-writable y ρ k h.1)
-      put-in-writable (Term.Apply f Terms.NoTerms) ρ k h = absurd h.1
-      put-in-writable (Term.Apply f (Terms.Then x xs)) ρ k h =
-          let all : AllWritable (all_put_in spec forms ρ (Terms.Then x xs)) = (put-in-writable x ρ k h.1.0, all-put-in-writable xs ρ k h.1.1) in
-          applied-writable (given_arguments forms f (all_put_in spec forms ρ (Terms.Then x xs))) f (all_put_in spec forms ρ (Terms.Then x xs))
-          (known f (all_put_in spec forms ρ (Terms.Then x xs)) h.0 all) h.0 all
+      put-in-writable (Term.Apply f xs) ρ k h =
+          either-writable (is_counting f) (count_put_in spec forms ρ xs) (applied_term (given_arguments forms f (all_put_in spec forms ρ xs)) f (all_put_in spec forms ρ xs)) (IsWord f) h.0
+          (count-writable xs ρ k h.1) (λ w. apply-writable f xs ρ k w h.1)
       put-in-writable (Term.Quantified q xs x) ρ k h =
           joined-writable q (copies spec xs (λ σ. put_in spec forms σ x) ρ)
           (copies-each TermWritable xs (λ σ. put_in spec forms σ x) (λ σ s. put-in-writable x σ s h.1) ρ k)
 
-      pub all-put-in-writable : (xs : Terms) (ρ : TermScope) → ScopeWritable ρ → AllWritable xs → AllWritable (all_put_in spec forms ρ xs)
+      pub all-put-in-writable : (xs : Terms) (ρ : TermScope) → ScopeWritable ρ → AllDataWritable xs → AllWritable (all_put_in spec forms ρ xs)
       all-put-in-writable Terms.NoTerms ρ k h = tt
       all-put-in-writable (Terms.Then x xs) ρ k h = (put-in-writable x ρ k h.0, all-put-in-writable xs ρ k h.1)
+
+      apply-writable : (f : Name) (xs : Terms) (ρ : TermScope) → ScopeWritable ρ → IsWord f → SomeDataWritable xs
+          → TermWritable (applied_term (given_arguments forms f (all_put_in spec forms ρ xs)) f (all_put_in spec forms ρ xs))
+      apply-writable f Terms.NoTerms ρ k w h = absurd h
+      apply-writable f (Terms.Then x xs) ρ k w h =
+          let all : AllWritable (all_put_in spec forms ρ (Terms.Then x xs)) = (put-in-writable x ρ k h.0, all-put-in-writable xs ρ k h.1) in
+          applied-writable (given_arguments forms f (all_put_in spec forms ρ (Terms.Then x xs))) f (all_put_in spec forms ρ (Terms.Then x xs))
+          (known f (all_put_in spec forms ρ (Terms.Then x xs)) w all) w all
+
+      count-writable : (xs : Terms) (ρ : TermScope) → ScopeWritable ρ → SomeDataWritable xs → TermWritable (count_put_in spec forms ρ xs)
+      count-writable Terms.NoTerms ρ k h = absurd h
+      count-writable (Terms.Then x xs) ρ k h = count-of-writable x ρ k h.0
+
+      count-of-writable : (x : Term) (ρ : TermScope) → ScopeWritable ρ → DataWritable x → TermWritable (count_of_put_in spec forms ρ x)
+      count-of-writable (Term.Quantified q xs x) ρ k h =
+          counted-writable (copies spec xs (λ σ. put_in spec forms σ x) ρ)
+          (copies-each TermWritable xs (λ σ. put_in spec forms σ x) (λ σ s. put-in-writable x σ s h.1) ρ k)
+      count-of-writable _ ρ k h = omega arith
 
   -- ---- state variables
 
@@ -224,7 +259,7 @@ module _ (m : Protocol) (h : ProtocolWritable m) where
       definitions-writable (data_of m) sorts m.definitions (reads (data_of m) m.variables)
       (reads-writable (data_of m) sorts m.variables h.variables) h.definitions
 
-  term-writable : (x : Term) (ρ : TermScope) → ScopeWritable ρ → TermWritable x → TermWritable (unfolded_term m ρ x)
+  term-writable : (x : Term) (ρ : TermScope) → ScopeWritable ρ → DataWritable x → TermWritable (unfolded_term m ρ x)
   term-writable x ρ k w = put-in-writable (data_of m) sorts (forms_of m) known x ρ k w
 
   -- an element's name and sort are words, and its index is spelled
@@ -247,18 +282,26 @@ module _ (m : Protocol) (h : ProtocolWritable m) where
   is-index-writable Terms.NoTerms (k ∷ ks) w s = tt
   is-index-writable (Terms.Then t ts) [] w s = tt
 
-  after-writable : (ρ : TermScope) → ScopeWritable ρ → (assigned : List protocol.Assignment) → Each AssignmentWritable assigned → (e : Element) → ElementWritable e →
-      (before : Term) → TermWritable before → TermWritable (term_after (data_of m) (forms_of m) ρ assigned e before)
-  after-writable ρ k [] a e w before b = b
-  after-writable ρ k (a ∷ others) w e v before b = after-writable ρ k others w.1 e v _ (by (same_name a.variable e.array))
+  abbrev CopyWritable : Copy → Type 0
+  CopyWritable c = ScopeWritable c.scope × AllDataWritable c.assignment.index × DataWritable c.assignment.term
+
+  copies-writable : (ρ : TermScope) → ScopeWritable ρ → (assigned : List protocol.Assignment) → Each AssignmentWritable assigned → Each CopyWritable (all_copies (data_of m) ρ assigned)
+  copies-writable ρ k assigned w =
+      flat-mapped AssignmentWritable CopyWritable (copies_of (data_of m) ρ) assigned
+      (λ a v. copies-each (data_of m) sorts CopyWritable a.variables (λ (σ : TermScope). let c : Copy = record { scope = σ; assignment = a } in c) (λ σ s. (s, v.2, v.3)) ρ k) w
+
+  after-writable : (cs : List Copy) → Each CopyWritable cs → (e : Element) → ElementWritable e →
+      (before : Term) → TermWritable before → TermWritable (after_copies (data_of m) (forms_of m) cs e before)
+  after-writable [] w e v before b = b
+  after-writable (c ∷ others) w e v before b = after-writable others w.1 e v _ (by (same_name c.assignment.variable e.array))
     where
-      by : (c : Bool) → TermWritable
-          (if c then choice (is_index (all_put_in (data_of m) (forms_of m) ρ a.index) e.index) (put_in (data_of m) (forms_of m) ρ a.term) before else before)
+      by : (here : Bool) → TermWritable
+          (if here then choice (is_index (all_put_in (data_of m) (forms_of m) c.scope c.assignment.index) e.index) (put_in (data_of m) (forms_of m) c.scope c.assignment.term) before else before)
       by true = (
         if-word,
         (
-          is-index-writable _ e.index (all-put-in-writable (data_of m) sorts (forms_of m) known a.index ρ k w.0.1) (spelled-writable e.index v.1),
-          (term-writable a.term ρ k w.0.2, (b, tt)),
+          is-index-writable _ e.index (all-put-in-writable (data_of m) sorts (forms_of m) known c.assignment.index c.scope w.0.0 w.0.1) (spelled-writable e.index v.1),
+          (term-writable c.assignment.term c.scope w.0.0 w.0.2, (b, tt)),
         ),
       )
       by false = b
@@ -273,7 +316,7 @@ module _ (m : Protocol) (h : ProtocolWritable m) where
         tt,
         term-writable i.step.guard ρ k w.0.2,
         mapped ElementWritable model.AssignmentWritable (unfolded_assignment m ρ i.step.assignments) (all_elements m)
-            (λ e v. after-writable ρ k i.step.assignments w.0.3 e v (Term.Named (name_of e)) (element-named e v)) elements-writable,
+            (λ e v. after-writable (all_copies (data_of m) ρ i.step.assignments) (copies-writable ρ k i.step.assignments w.0.3) e v (Term.Named (name_of e)) (element-named e v)) elements-writable,
       )
 
   pub steps-unfolded : Each model.StepWritable (unfolded m).steps
@@ -286,11 +329,15 @@ module _ (m : Protocol) (h : ProtocolWritable m) where
   nothing-known : FormsWritable no_forms
   nothing-known x ts w k = tt
 
-  initial-writable : (ys : List StateVariable) (xs : Terms) → AllWritable xs → Each TermWritable (unfolded_initial (data_of m) ys xs)
+  start-known : FormsWritable (forms_at_start m)
+  start-known = definitions-writable (data_of m) sorts m.definitions no_forms nothing-known h.definitions
+
+  initial-writable : (ys : List StateVariable) (xs : Terms) → AllDataWritable xs → Each TermWritable (unfolded_initial (data_of m) (forms_at_start m) ys xs)
   initial-writable (y ∷ ys) (Terms.Then x xs) w =
-      both TermWritable (map (λ (ks : List Term). put_in (data_of m) no_forms (written y.indices ks) x) (written_tuples (data_of m) y.indices)) (unfolded_initial (data_of m) ys xs)
-      (mapped (Each IsSpelled) TermWritable (λ (ks : List Term). put_in (data_of m) no_forms (written y.indices ks) x) (written_tuples (data_of m) y.indices)
-      (λ ks s. put-in-writable (data_of m) sorts no_forms nothing-known x (written y.indices ks) (written-writable y.indices ks s) w.0)
+      let f : List Term → Term = λ ks. put_in (data_of m) (forms_at_start m) (written y.indices ks) x in
+      both TermWritable (map f (written_tuples (data_of m) y.indices)) (unfolded_initial (data_of m) (forms_at_start m) ys xs)
+      (mapped (Each IsSpelled) TermWritable f (written_tuples (data_of m) y.indices)
+      (λ ks s. put-in-writable (data_of m) sorts (forms_at_start m) start-known x (written y.indices ks) (written-writable y.indices ks s) w.0)
       (tuples-spelled (data_of m) sorts y.indices))
       (initial-writable ys xs w.1)
   initial-writable [] xs w = tt
@@ -302,7 +349,7 @@ module _ (m : Protocol) (h : ProtocolWritable m) where
     ranges = h.ranges;
     variables = mapped ElementWritable VariableWritable variable_of (all_elements m) (λ e w. (element-named e w, w.2)) elements-writable;
     steps = steps-unfolded;
-    initial = terms-writable (unfolded_initial (data_of m) m.variables m.initial) (initial-writable m.variables m.initial h.initial);
+    initial = terms-writable (unfolded_initial (data_of m) (forms_at_start m) m.variables m.initial) (initial-writable m.variables m.initial h.initial);
   }
 
   -- ---- formulas

@@ -154,7 +154,7 @@ holds-in-wider-ranges m ranges f wider p x =
     let n = in_ranges ranges m in
     let parts = and_parts (is_state m s) (satisfying m no_sets [] f s) x in
     let truth = ordered m ranges f wider true f p wider.formula [] no_sets no_sets (λ X i k y. y) s parts.0 parts.1 in
-    ap (λ i. is_state n i && satisfying n no_sets [] f i) (begins-kept m ranges wider.variables wider.initial)
+    ap (λ i. is_state n i && satisfying n no_sets [] f i) (begins-kept m ranges wider.variables wider.definitions wider.initial)
     ∙ and_from (is_state n s) (satisfying n no_sets [] f s) (states-wider m ranges wider.variables s parts.0) truth
 
 negation-kept : (m : Protocol) (ranges : List Range) (f : Formula) → IsFormulaKept (d m ranges) (e m ranges) f → IsFormulaKept (d m ranges) (e m ranges) (negation f)

@@ -5,7 +5,7 @@ use Rattle.pb_protocol_tree.specs.Form.{ProtocolForm}
 use Rattle.pb_protocol_meaning.specs.Syntax.{StateVariable, Property}
 use Rattle.pb_protocol_meaning.specs.Erase.{erase}
 use Rattle.pb_protocol_folding.specs.Names.{AreDistinct, enumerators_in}
-use Rattle.pb_protocol_unfolding.specs.Plain.{plain, IsPlain}
+use Rattle.pb_protocol_unfolding.specs.Plain.{plain, IsPlain, ModelCountsNothing}
 use Rattle.pb_protocol_unfolding.specs.Positive.{HasPositiveCalls}
 use Rattle.pb_protocol_typing.specs.Faults.{protocol_faults}
 
@@ -27,9 +27,9 @@ CallsArePositive =
     (text : ProtocolForm) → protocol_faults text ≡ [] →
     All (λ (p : Property). HasPositiveCalls true p.formula) (erase text).properties
 
--- The model that a plain protocol is has names of variables apart, steps that assign none of them
--- twice, and an initial term for each.
+-- The model that a plain protocol is, in which nothing counts, has names of variables apart, steps
+-- that assign none of them twice, and an initial term for each.
 abbrev pub PlainProtocolsArePlain : Type 0
 PlainProtocolsArePlain =
     (text : ProtocolForm) (m : Model) → protocol_faults text ≡ [] → erase text ≡ plain m →
-    IsPlain m
+    ModelCountsNothing m → IsPlain m

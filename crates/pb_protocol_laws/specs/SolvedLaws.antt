@@ -12,7 +12,7 @@ use Rattle.pb_protocol_tree.specs.Form.{PropertyForm, ProtocolForm}
 use Rattle.pb_protocol_meaning.specs.Syntax.{Protocol, StepSet}
 use Rattle.pb_protocol_meaning.specs.Steps.{successors}
 use Rattle.pb_protocol_meaning.specs.Erase.{erase}
-use Rattle.pb_protocol_unfolding.specs.Plain.{plain, IsPlain}
+use Rattle.pb_protocol_unfolding.specs.Plain.{plain, IsPlain, PropertiesCountNothing}
 use Rattle.pb_protocol_unfolding.specs.Hygiene.{HidesNothing}
 use Rattle.pb_protocol_unfolding.specs.ModelLaws.{flat_model}
 use Rattle.pb_protocol_packing.specs.Groups.{groups_of, packed}
@@ -27,10 +27,11 @@ property_names = map (λ (p : PropertyForm). p.name)
 abbrev pub model_property_names : List model_form.PropertyForm → List Named
 model_property_names = map (λ (p : model_form.PropertyForm). p.name)
 
--- a plain protocol's own model
+-- a plain protocol's own model, of which no property counts
 abbrev pub PlainModelsAreSolved : Type 0
 PlainModelsAreSolved =
     (protocol : ProtocolForm) (m : ModelForm) → IsPlain (model_text.erase m) →
+    PropertiesCountNothing (model_text.erase m).properties →
     erase protocol ≡ plain (model_text.erase m) →
     model_property_names m.properties ≡ property_names protocol.properties →
     IsSolvedFor protocol m itself

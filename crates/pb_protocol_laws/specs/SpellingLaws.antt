@@ -4,13 +4,17 @@ use Rattle.pb_text_printer.specs.Sayable.{Each}
 use Rattle.pb_model_tree.specs.Form.{ModelForm}
 use Rattle.pb_model_meaning.specs.Erase.{erase}
 use Rattle.pb_model_meaning.specs.Syntax as flat
+use Rattle.pb_protocol_tree.specs.Form.{ModelTextForm}
 use Rattle.pb_protocol_meaning.specs.Syntax.{Formula, Protocol}
+use Rattle.pb_protocol_meaning.specs.Erase as protocol
+use Rattle.pb_protocol_constants.specs.Settled.{HasSmallNumbers, settled}
 use Rattle.pb_protocol_unfolding.specs.ModelLaws.{flat_model, flat_formula}
-use Rattle.pb_protocol_unfolding.specs.Plain.{plain, plain_formula}
+use Rattle.pb_protocol_unfolding.specs.Plain.{FormulaCountsNothing, IsPlain, plain, plain_formula}
 use Rattle.pb_protocol_packing.specs.Groups.{groups_of, packed, said_formula}
 use Rattle.pb_protocol_groups.specs.Sizes.{size_faults}
 use Rattle.pb_model_spelling.specs.Writable.{ModelWritable, ModalWritable}
 use Rattle.pb_model_spelling.specs.Protocols.{ProtocolWritable, FormulaWritable}
+use Rattle.pb_model_spelling.specs.Protocols.{ModelTextWritable}
 use Rattle.pb_protocol_laws.specs.FewValues.{HasFewValues}
 
 -- ---- flat models
@@ -27,14 +31,24 @@ FlatFormulasAreWritable =
 
 -- ---- plain models
 
--- a model has words where the protocol that it is written as has
+-- a model that counts nothing has words where the protocol that it is written as has
 abbrev pub PlainModelsAreWritable : Type 0
-PlainModelsAreWritable = (m : flat.Model) → ProtocolWritable (plain m) → ModelWritable m
+PlainModelsAreWritable =
+    (m : flat.Model) → IsPlain m → ProtocolWritable (plain m) → ModelWritable m
 
 -- and so has a formula
 abbrev pub PlainFormulasAreWritable : Type 0
 PlainFormulasAreWritable =
-    (f : flat.Formula) → FormulaWritable (plain_formula f) → ModalWritable f
+    (f : flat.Formula) → FormulaCountsNothing f → FormulaWritable (plain_formula f) →
+    ModalWritable f
+
+-- ---- settled protocols
+
+-- the protocol of a text that has words has words, where its numbers have 32 bits
+abbrev pub SettledProtocolsAreWritable : Type 0
+SettledProtocolsAreWritable =
+    (t : ModelTextForm) → HasSmallNumbers t → ModelTextWritable t →
+    ProtocolWritable (protocol.erase (settled t))
 
 -- ---- packed models
 

@@ -31,11 +31,12 @@ AreDefinitionsUnchanged d e [] = ⊤
 AreDefinitionsUnchanged d e (x ∷ definitions) =
     IsUnchanged d e x.term × AreDefinitionsUnchanged d e definitions
 
--- in what is assigned, and where
+-- in what is assigned, where, and for all of which values
 abbrev pub AreAssignmentsKept : Spec → Spec → List Assignment → Type 0
 AreAssignmentsKept d e [] = ⊤
 AreAssignmentsKept d e (a ∷ assignments) =
-    IsEachUnchanged d e a.index × IsUnchanged d e a.term × AreAssignmentsKept d e assignments
+    AreUnchanged d e a.variables × IsEachUnchanged d e a.index × IsUnchanged d e a.term
+    × AreAssignmentsKept d e assignments
 
 -- in steps, whose own variables have the values that they had
 pub record IsStepKept (d e : Spec) (a : Step) : Type 0 where

@@ -16,7 +16,7 @@ pub use solved::{flat_models_are_solved, moves_are_the_protocols, packed_models_
 pub use spelling::{
     flat_formulas_are_writable, flat_models_are_writable, packed_formulas_are_writable,
     packed_groups_have_few_values, packed_models_are_writable, plain_formulas_are_writable,
-    plain_models_are_writable,
+    plain_models_are_writable, settled_protocols_are_writable,
 };
 pub use wider::verdicts_stay_in_wider_ranges;
 

@@ -9,6 +9,7 @@ ghost use Rattle.pb_protocol_laws.specs.SpellingLaws.{PlainFormulasAreWritable};
 ghost use Rattle.pb_protocol_laws.specs.SpellingLaws.{PackedModelsAreWritable};
 ghost use Rattle.pb_protocol_laws.specs.SpellingLaws.{PackedFormulasAreWritable};
 ghost use Rattle.pb_protocol_laws.specs.SpellingLaws.{GroupsHaveFewValues};
+ghost use Rattle.pb_protocol_laws.specs.SpellingLaws.{SettledProtocolsAreWritable};
 
 /// The flat model of a protocol that has words has words: elements are named by words, and numbers
 /// that are computed stay within the largest that a text may write.
@@ -29,6 +30,12 @@ pub fn plain_models_are_writable()
 /// So has each of its formulas.
 pub fn plain_formulas_are_writable()
     ensures { PlainFormulasAreWritable }
+{}
+
+/// The protocol of a model's text has words where the text has: its constants are definitions of
+/// numbers of 32 bits, and ranges are within them.
+pub fn settled_protocols_are_writable()
+    ensures { SettledProtocolsAreWritable }
 {}
 
 /// Each group of a model has few values, where packing tells no fault of their sizes.

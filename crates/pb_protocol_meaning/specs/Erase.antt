@@ -10,7 +10,8 @@ use Rattle.pb_model_tree.specs.declared.formula.Modality.TheVariants as modality
 use Rattle.pb_protocol_tree.specs.declared.protocol.Protocol as declared_protocol
 use Rattle.pb_protocol_tree.specs.Form.{StepValueForm, StepSetForm, FormulaForm}
 use Rattle.pb_protocol_tree.specs.Form.{StateVariableForm, DefinitionForm, AssignmentForm}
-use Rattle.pb_protocol_tree.specs.Form.{StepForm, PropertyForm, ProtocolForm, protocol_form}
+use Rattle.pb_protocol_tree.specs.Form.{StepForm, PropertyForm, ProtocolForm, copied_variables}
+use Rattle.pb_protocol_tree.specs.Form.{protocol_form}
 use Rattle.pb_protocol_meaning.specs.Syntax.{StateVariable, Definition, Assignment, Step, StepSet}
 use Rattle.pb_protocol_meaning.specs.Syntax.{Formula, Property, Protocol}
 
@@ -61,6 +62,7 @@ erased_definition d = record {
 
 abbrev pub erased_assignment : AssignmentForm → Assignment
 erased_assignment a = record {
+  variables = erased_variables (copied_variables a.copies);
   variable = a.variable.text;
   index = erased_arguments a.index;
   term = erased_term a.value;

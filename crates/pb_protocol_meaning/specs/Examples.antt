@@ -1,11 +1,13 @@
--- Two caches of one line, and a counter that leaves its range, as they are written.
-use Rattle.std.specs.Prelude.{true, pos, List, [], ◌∷◌, Some, None, codes}
+-- Two caches of one line, a round of votes, and a counter that leaves its range, as they are
+-- written.
+use Rattle.std.specs.Prelude.{true, false, pos, List, [], ◌∷◌, Some, None, codes}
 use Rattle.pb_fixpoint.specs.declared.Sign.TheVariants.{Nu}
 use Rattle.pb_text_tree.specs.declared.operator.Quantifier.TheVariants.{Forall, Exists}
 use Rattle.pb_text_meaning.specs.Syntax.{Name, Variable, Operator, Term, Terms, Struct}
 use Rattle.pb_text_meaning.specs.Syntax.{SortDeclaration}
 use Rattle.pb_model_meaning.specs.Steps.{State}
 use Rattle.pb_model_meaning.specs.Examples.{enumerator, variable, both, same, differs, next, n}
+use Rattle.pb_text_counting.specs.Counting.{counting}
 use Rattle.pb_protocol_meaning.specs.Syntax.{Definition, Assignment, Step, StepSet, Formula}
 use Rattle.pb_protocol_meaning.specs.Syntax.{Protocol}
 
@@ -49,13 +51,14 @@ line_is x l = Term.Binary Operator.Equal (apply (codes "line") (Term.Named x)) (
 -- line(x) := l, and x := e
 abbrev pub line_becomes : Name → Name → Assignment
 line_becomes x l = record {
+  variables = [];
   variable = codes "line";
   index = Terms.Then (Term.Named x) Terms.NoTerms;
   term = Term.Named l;
 }
 
 abbrev pub becomes : Name → Term → Assignment
-becomes x e = record { variable = x; index = Terms.NoTerms; term = e }
+becomes x e = record { variables = []; variable = x; index = Terms.NoTerms; term = e }
 
 abbrev pub negated : Term → Term
 negated x = Term.Not x
@@ -167,6 +170,104 @@ reads_share =
 -- <read(_)> true
 abbrev pub some_read : Formula
 some_read = Formula.Diamond (StepSet.With (codes "read") (None ∷ [])) (Formula.Truth true)
+
+-- ---- a round of votes
+
+abbrev pub i : Name
+i = codes "i"
+
+abbrev pub said : Name
+said = codes "said"
+
+abbrev pub round : Name
+round = codes "round"
+
+abbrev pub limit : Name
+limit = codes "limit"
+
+abbrev pub votes : Name
+votes = codes "votes"
+
+abbrev pub node : Variable
+node = variable i (codes "Node")
+
+-- count i: Node . said(i)
+abbrev pub votes_counted : Term
+votes_counted =
+    Term.Apply counting
+    (Terms.Then (Term.Quantified Exists (node ∷ []) (apply said (Term.Named i))) Terms.NoTerms)
+
+-- said(t) := b, and forall i: Node . said(i) := false
+abbrev pub said_becomes : Term → Term → Assignment
+said_becomes t e = record {
+  variables = [];
+  variable = said;
+  index = Terms.Then t Terms.NoTerms;
+  term = e;
+}
+
+abbrev pub none_said : Assignment
+none_said = record {
+  variables = node ∷ [];
+  variable = said;
+  index = Terms.Then (Term.Named i) Terms.NoTerms;
+  term = Term.Truth false;
+}
+
+-- say(i: Node): !said(i) -> said(i) := true;
+-- reset: votes == limit -> round := votes, forall i: Node . said(i) := false, said(round) := true
+abbrev pub say : Step
+say = record {
+  name = codes "say";
+  variables = node ∷ [];
+  guard = negated (apply said (Term.Named i));
+  assignments = said_becomes (Term.Named i) (Term.Truth true) ∷ [];
+}
+
+abbrev pub reset : Step
+reset = record {
+  name = codes "reset";
+  variables = [];
+  guard = same votes limit;
+  assignments =
+      becomes round (Term.Named votes) ∷ none_said
+      ∷ said_becomes (Term.Named round) (Term.Truth true) ∷ [];
+}
+
+-- limit - 1
+abbrev pub before_limit : Term
+before_limit = Term.Binary Operator.Minus (Term.Named limit) (Term.Number 1)
+
+-- sort Node; 1..3; define limit = 3; votes = count i: Node . said(i);
+-- model state said(i: Node): Bool, round: Node; .. init i == limit, limit - 1;
+abbrev pub round_of_votes : Protocol
+round_of_votes = record {
+  sorts = [];
+  ranges = record { name = codes "Node"; low = pos 1; high = pos 3 } ∷ [];
+  variables =
+      record { name = said; indices = node ∷ []; sort = codes "Bool" } ∷
+      record { name = round; indices = []; sort = codes "Node" } ∷ [];
+  definitions =
+      record { name = limit; parameters = []; term = Term.Number 3 } ∷
+      record { name = votes; parameters = []; term = votes_counted } ∷ [];
+  steps = say ∷ reset ∷ [];
+  initial =
+      Terms.Then (same i limit) (Terms.Then before_limit Terms.NoTerms);
+  properties = [];
+}
+
+-- all have said it in round 2, and all but the first
+abbrev pub all_said : State
+all_said = pos 1 ∷ pos 1 ∷ pos 1 ∷ pos 2 ∷ []
+
+abbrev pub others_said : State
+others_said = pos 0 ∷ pos 1 ∷ pos 1 ∷ pos 2 ∷ []
+
+-- <say(limit - 1)> said(limit - 1)
+abbrev pub second_says : Formula
+second_says =
+    Formula.Diamond (StepSet.With (codes "say") (Some before_limit ∷ []))
+    (Formula.Data (apply said before_limit))
 
 -- ---- a counter
 

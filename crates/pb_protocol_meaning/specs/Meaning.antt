@@ -1,14 +1,33 @@
 -- What a term says where state variables and definitions stand in it: its value. Nothing is put in
 -- for a name: an array is a function of its indices' values, a definition one of its arguments'.
-use Rattle.std.specs.Prelude.{pos, neg_ℤ, Bool, true, false, not, ◌&&◌, if◌then◌else◌}
-use Rattle.std.specs.Prelude.{List, [], ◌∷◌, Option, Some, None}
+-- Counting is summation over finite domains (as the sum of mCRL2's data and the sizes of sets in
+-- TLA+, Lamport 2002): for how many tuples of values a condition is true.
+use Rattle.std.specs.Prelude.{ℕ, suc, pos, neg_ℤ, Bool, true, false, not, ◌&&◌, if◌then◌else◌}
+use Rattle.std.specs.Prelude.{List, [], ◌∷◌, flat_map, Option, Some, None}
 use Rattle.std.specs.Ordering.{int_eq}
 use Rattle.pb_base_values.specs.Carrier.{Value, Carrier, Tuple, of_bool}
 use Rattle.pb_text_meaning.specs.Syntax.{Name, same_name, Variable, Term, Terms, Spec}
 use Rattle.pb_text_meaning.specs.Value.{Assignment, looked_up, is_true, binary, function_value}
+use Rattle.pb_text_meaning.specs.Sorts.{carrier_of}
 use Rattle.pb_text_meaning.specs.Value.{named_value, quantified}
 use Rattle.pb_text_meaning.specs.Meaning.{assigned}
+use Rattle.pb_text_counting.specs.Counting.{is_counting}
 use Rattle.pb_protocol_meaning.specs.Syntax.{Definition}
+
+-- ---- all values of variables
+
+-- what f makes of each tuple of values of the variables, the last variable fastest
+abbrev pub for_each :
+    {A : Type 0} → Spec → List Variable → (Assignment → A) → Assignment → List A
+for_each spec [] f a = f a ∷ []
+for_each spec (x ∷ xs) f a =
+    flat_map (λ v. for_each spec xs f ((x.name, v) ∷ a)) (carrier_of spec x.sort)
+
+-- how many of these are true
+abbrev pub true_count : List Bool → ℕ
+true_count [] = 0
+true_count (true ∷ bs) = suc (true_count bs)
+true_count (false ∷ bs) = true_count bs
 
 -- ---- terms
 
@@ -46,8 +65,9 @@ abbrev mutual
   meaning spec functions a (Term.Binary o x y) =
       binary o (meaning spec functions a x) (meaning spec functions a y)
   meaning spec functions a (Term.Apply f xs) =
-      let vs = meanings spec functions a xs in
-      applied_meaning spec (given_arguments functions f vs) f vs
+      if is_counting f then pos (count spec functions a xs) else
+      applied_meaning spec (given_arguments functions f (meanings spec functions a xs)) f
+      (meanings spec functions a xs)
   meaning spec functions a (Term.Quantified q xs x) =
       of_bool (quantified spec q xs (λ b. is_true (meaning spec functions b x)) a)
 
@@ -55,6 +75,16 @@ abbrev mutual
   meanings spec functions a Terms.NoTerms = []
   meanings spec functions a (Terms.Then x xs) =
       meaning spec functions a x ∷ meanings spec functions a xs
+
+  -- for how many tuples of values of the variables the body of a quantifier is true
+  pub count : Spec → Functions → Assignment → Terms → ℕ
+  count spec functions a Terms.NoTerms = 0
+  count spec functions a (Terms.Then x xs) = count_of spec functions a x
+
+  pub count_of : Spec → Functions → Assignment → Term → ℕ
+  count_of spec functions a (Term.Quantified q xs x) =
+      true_count (for_each spec xs (λ b. is_true (meaning spec functions b x)) a)
+  count_of spec functions a _ = 0
 
 -- ---- definitions
 

@@ -1,4 +1,6 @@
--- The labelled transition system of a protocol: its states, and where its steps lead.
+-- The labelled transition system of a protocol: its states, and where its steps lead. All
+-- assignments of a step are made at once, as in guarded commands (Dijkstra 1975) and in Murphi
+-- (Dill 1996): each is read in the old state.
 use Rattle.std.specs.Prelude.{Bool, true, false, not, ◌&&◌, ◌||◌, if◌then◌else◌, List, [], ◌∷◌}
 use Rattle.std.specs.Prelude.{◌++◌, map, filter, flat_map, length, drop, Option, Some, None}
 use Rattle.std.specs.Ordering.{int_eq}
@@ -11,7 +13,7 @@ use Rattle.pb_text_meaning.specs.Formula.{carriers_of}
 use Rattle.pb_text_meaning.specs.Meaning.{assigned}
 use Rattle.pb_model_meaning.specs.Steps.{State}
 use Rattle.pb_protocol_meaning.specs.Syntax.{StateVariable, Assignment, Step, StepSet, Protocol}
-use Rattle.pb_protocol_meaning.specs.Meaning.{Functions, no_functions, meaning, meanings}
+use Rattle.pb_protocol_meaning.specs.Meaning.{Functions, no_functions, meaning, meanings, for_each}
 use Rattle.pb_protocol_meaning.specs.Meaning.{are_as_many, with_definitions, same_values}
 use Rattle.pb_protocol_meaning.specs.Meaning.{all_inside, value_beside}
 
@@ -78,36 +80,60 @@ value_at m s c x = meaning (data_of m) (functions_at m s) c x
 abbrev pub values_at : Protocol → State → data_value.Assignment → Terms → Tuple
 values_at m s c xs = meanings (data_of m) (functions_at m s) c xs
 
+-- ---- where there is no state
+
+-- definitions alone: a term of `init` or in a set of steps names no state variable
+abbrev pub functions_at_start : Protocol → Functions
+functions_at_start m = with_definitions (data_of m) no_functions m.definitions
+
 -- the term of each variable, at each tuple of values of its indices
-abbrev pub initial_values : Spec → List StateVariable → Terms → State
-initial_values spec (y ∷ ys) (Terms.Then x xs) =
-    map (λ (index : Tuple). meaning spec no_functions (assigned y.indices index []) x)
-    (indices_of spec y) ++ initial_values spec ys xs
-initial_values spec [] xs = []
-initial_values spec (y ∷ ys) Terms.NoTerms = []
+abbrev pub initial_values : Spec → Functions → List StateVariable → Terms → State
+initial_values spec functions (y ∷ ys) (Terms.Then x xs) =
+    map (λ (index : Tuple). meaning spec functions (assigned y.indices index []) x)
+    (indices_of spec y) ++ initial_values spec functions ys xs
+initial_values spec functions [] xs = []
+initial_values spec functions (y ∷ ys) Terms.NoTerms = []
 
 abbrev pub initial_state : Protocol → State
-initial_state m = initial_values (data_of m) m.variables m.initial
+initial_state m = initial_values (data_of m) (functions_at_start m) m.variables m.initial
 
 -- ---- steps
 
--- what a variable is at an index after all assignments at once, each read in the old state; of
--- several at one index the last counts
-abbrev pub value_after :
-    (Term → Value) → (Terms → Tuple) → List Assignment → Name → Tuple → Value → Value
-value_after evaluate evaluate_all [] x index before = before
-value_after evaluate evaluate_all (a ∷ others) x index before =
-    let here = same_name a.variable x && same_values (evaluate_all a.index) index in
-    value_after evaluate evaluate_all others x index (if here then evaluate a.term else before)
+-- a variable gets a value at an index
+pub record Update : Type 0 where
+  pub variable : Name
+  pub index : Tuple
+  pub value : Value
 
--- the values at these positions after assignments, from those before
-abbrev pub state_after :
-    (Term → Value) → (Terms → Tuple) → List Assignment → List Position → State → State
-state_after evaluate evaluate_all assignments (p ∷ ps) (v ∷ s) =
-    value_after evaluate evaluate_all assignments p.variable p.index v ∷
-    state_after evaluate evaluate_all assignments ps s
-state_after evaluate evaluate_all assignments [] s = []
-state_after evaluate evaluate_all assignments (p ∷ ps) [] = []
+-- what an assignment does for these values of names
+abbrev pub update_by : Spec → Functions → Assignment → data_value.Assignment → Update
+update_by spec functions a c = record {
+  variable = a.variable;
+  index = meanings spec functions c a.index;
+  value = meaning spec functions c a.term;
+}
+
+-- and for each tuple of values of its variables, in order
+abbrev pub updates_by : Spec → Functions → data_value.Assignment → Assignment → List Update
+updates_by spec functions c a = for_each spec a.variables (update_by spec functions a) c
+
+-- what assignments do, one behind the other
+abbrev pub updates : Spec → Functions → data_value.Assignment → List Assignment → List Update
+updates spec functions c assignments = flat_map (updates_by spec functions c) assignments
+
+-- what a variable is at an index after all updates at once; of several at one index the last counts
+abbrev pub value_after : List Update → Name → Tuple → Value → Value
+value_after [] x index before = before
+value_after (u ∷ others) x index before =
+    let here = same_name u.variable x && same_values u.index index in
+    value_after others x index (if here then u.value else before)
+
+-- the values at these positions after updates, from those before
+abbrev pub state_after : List Update → List Position → State → State
+state_after us (p ∷ ps) (v ∷ s) =
+    value_after us p.variable p.index v ∷ state_after us ps s
+state_after us [] s = []
+state_after us (p ∷ ps) [] = []
 
 -- a step's own variables stand for these values
 abbrev pub own_values : Step → Tuple → data_value.Assignment
@@ -118,16 +144,17 @@ is_enabled m s a own = is_true (value_at m s (own_values a own) a.guard)
 
 abbrev pub next_state : Protocol → State → Step → Tuple → State
 next_state m s a own =
-    let c = own_values a own in
-    state_after (value_at m s c) (values_at m s c) a.assignments (positions m) s
+    state_after (updates (data_of m) (functions_at m s) (own_values a own) a.assignments)
+    (positions m) s
 
 -- ---- sets of steps
 
 -- whether a step's own values are those that are named; a term may name the variables of
--- quantifiers around, and neither the state nor definitions
+-- quantifiers around and definitions, and not the state
 abbrev pub fits : Protocol → data_value.Assignment → List (Option Term) → Tuple → Bool
 fits m c [] [] = true
-fits m c (Some x ∷ xs) (v ∷ vs) = int_eq (meaning (data_of m) no_functions c x) v && fits m c xs vs
+fits m c (Some x ∷ xs) (v ∷ vs) =
+    int_eq (meaning (data_of m) (functions_at_start m) c x) v && fits m c xs vs
 fits m c (None ∷ xs) (v ∷ vs) = fits m c xs vs
 fits m c [] (v ∷ vs) = false
 fits m c (x ∷ xs) [] = false

@@ -1,5 +1,6 @@
 -- What the text of a protocol says, without its places: the abstract syntax of a model as it is
--- written, with arrays, definitions, quantified formulas and steps by their values.
+-- written, with arrays, definitions, quantified formulas and steps by their values. A data term is
+-- one of texts; `count xs . p` is the reserved word `exists` applied to `exists xs . p`.
 use Rattle.std.specs.Prelude.{Bool, List, Option}
 use Rattle.pb_fixpoint.specs.declared.Sign.{Sign}
 use Rattle.pb_text_tree.specs.declared.operator.Quantifier.{Quantifier}
@@ -17,8 +18,10 @@ pub record Definition : Type 0 where
   pub parameters : List Variable
   pub term : Term
 
--- x(t, ..) := e
+-- forall i: S, .. . x(t, ..) := e: one for each tuple of values of the variables; without variables
+-- there is one
 pub record Assignment : Type 0 where
+  pub variables : List Variable
   pub variable : Name
   pub index : Terms
   pub term : Term

@@ -12,8 +12,8 @@ use Rattle.pb_text_meaning.specs.Value.{Assignment, quantified}
 use Rattle.pb_model_meaning.specs.Steps.{State}
 use Rattle.pb_model_meaning.specs.Satisfaction.{States, Valuation, with_set, no_sets}
 use Rattle.pb_protocol_meaning.specs.Syntax.{Step, StepSet, Formula, Property, Protocol}
-use Rattle.pb_protocol_meaning.specs.Meaning.{no_functions, meaning}
-use Rattle.pb_protocol_meaning.specs.Steps.{data_of, is_state, initial_state, is_enabled, next_state, fits, has_step, successors}
+use Rattle.pb_protocol_meaning.specs.Meaning.{meaning}
+use Rattle.pb_protocol_meaning.specs.Steps.{data_of, functions_at_start, is_state, initial_state, is_enabled, next_state, fits, has_step, successors}
 use Rattle.pb_protocol_meaning.specs.Satisfaction.{state_count, holds_at, satisfying}
 use Rattle.pb_protocol_negation.specs.Laws.{SatisfactionIsKept}
 
@@ -26,7 +26,7 @@ module _ (m : Protocol) (properties : List Property) where
   fits-same c [] (v ∷ vs) = refl
   fits-same c (Some x ∷ xs) [] = refl
   fits-same c (None ∷ xs) [] = refl
-  fits-same c (Some x ∷ xs) (v ∷ vs) = ap (λ b. int_eq (meaning (data_of m) no_functions c x) v && b) (fits-same c xs vs)
+  fits-same c (Some x ∷ xs) (v ∷ vs) = ap (λ b. int_eq (meaning (data_of m) (functions_at_start m) c x) v && b) (fits-same c xs vs)
   fits-same c (None ∷ xs) (v ∷ vs) = fits-same c xs vs
 
   has-step-same : (c : Assignment) (A : StepSet) (x : Name) (own : Tuple) → has_step w c A x own ≡ has_step m c A x own

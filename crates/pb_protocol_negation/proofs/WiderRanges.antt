@@ -41,9 +41,9 @@ other-false true y h e = absurd (true≢false (sym e ∙ h refl))
 other-false false y h e = refl
 
 pub fails_in_wider_ranges : PlainModelsKeepTheirMeaning → TrueStaysTrueInWiderRanges → FailsInWiderRanges
-fails_in_wider_ranges means stays m w f g of_m of_w is_negation wider positive fails =
+fails_in_wider_ranges means stays m w f g of_m of_w counts is_negation wider positive fails =
     let positive_g = plain-positive g true (subst (λ (x : Formula). HasPositiveCalls true x) (sym is_negation) (negations_are_positive (plain_formula f) positive)) in
-    let in_m : flat_satisfaction.satisfies m g ≡ true = sym ((means m of_m).3 g) ∙ ap (satisfies (plain m)) is_negation ∙ fails in
+    let in_m : flat_satisfaction.satisfies m g ≡ true = sym ((means m of_m).3 g counts) ∙ ap (satisfies (plain m)) is_negation ∙ fails in
     let in_w = stays m w g wider positive_g in_m in
     other-false (satisfies (plain w) (plain_formula f)) (satisfies (plain w) (negation (plain_formula f))) (never_both (plain w) (plain_formula f) positive)
-    (sym (ap (satisfies (plain w)) is_negation) ∙ (means w of_w).3 g ∙ in_w)
+    (sym (ap (satisfies (plain w)) is_negation) ∙ (means w of_w).3 g counts ∙ in_w)

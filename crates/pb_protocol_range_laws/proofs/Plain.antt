@@ -6,7 +6,7 @@ use Rattle.pb_text_meaning.specs.Syntax.{Name}
 use Rattle.pb_model_meaning.specs.Syntax.{Formula}
 use Rattle.pb_model_range_laws.specs.Negation.{IsBound, IsNegation, IsOtherSign}
 use Rattle.pb_protocol_meaning.specs.Syntax as protocol
-use Rattle.pb_protocol_unfolding.specs.Plain.{plain_formula, plain_set}
+use Rattle.pb_protocol_unfolding.specs.Plain.{plain_formula, plain_set, FormulaCountsNothing}
 use Rattle.pb_protocol_negation.specs.Dual.{dual_sign}
 use Rattle.pb_protocol_negation.specs.Negation.{negation}
 use Rattle.pb_protocol_negation.specs.Verdict as verdict
@@ -38,6 +38,18 @@ is-dual (Formula.Implies f g) = (Formula.Not (dual f), dual g, refl, inl (dual f
 is-dual (Formula.Box A f) = (dual f, refl, is-dual f)
 is-dual (Formula.Diamond A f) = (dual f, refl, is-dual f)
 is-dual (Formula.Fixpoint sign X f) = (dual_sign sign, dual f, other-sign sign, refl, is-dual f)
+
+pub dual-counts : (f : Formula) → FormulaCountsNothing f → FormulaCountsNothing (dual f)
+dual-counts (Formula.Truth b) h = tt
+dual-counts (Formula.Data x) h = h
+dual-counts (Formula.Named X) h = tt
+dual-counts (Formula.Not f) h = dual-counts f h
+dual-counts (Formula.And f g) h = (dual-counts f h.0, dual-counts g h.1)
+dual-counts (Formula.Or f g) h = (dual-counts f h.0, dual-counts g h.1)
+dual-counts (Formula.Implies f g) h = (dual-counts f h.0, dual-counts g h.1)
+dual-counts (Formula.Box A f) h = dual-counts f h
+dual-counts (Formula.Diamond A f) h = dual-counts f h
+dual-counts (Formula.Fixpoint sign X f) h = dual-counts f h
 
 both : (c : protocol.Formula → protocol.Formula → protocol.Formula) (a b x y : protocol.Formula) → a ≡ x → b ≡ y → c a b ≡ c x y
 both c a b x y e k = ap (λ z. c z b) e ∙ ap (c x) k

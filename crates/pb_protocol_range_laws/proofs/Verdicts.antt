@@ -29,7 +29,7 @@ use Rattle.pb_protocol_range_laws.specs.Laws.{NoCutMeansOne, VerdictsAreFinalWit
 use Rattle.pb_protocol_range_laws.proofs.Unfolded.{unfolded-closed, unfolded-dual}
 use Rattle.pb_protocol_range_laws.proofs.Folded.{fold-closed, fold-dual, is-negation}
 use Rattle.pb_protocol_range_laws.proofs.Packed.{apart-dual, said-closed, said-dual}
-use Rattle.pb_protocol_range_laws.proofs.Plain.{dual, is-dual, plain-closed, plain-dual}
+use Rattle.pb_protocol_range_laws.proofs.Plain.{dual, dual-counts, is-dual, plain-closed, plain-dual}
 
 module _ (decide : NegationsDecideWithoutCuts) (plain_same : PlainModelsKeepTheirMeaning) (flat_same : FlatModelsSatisfyTheSame) (flat_apart : FlatNamesAreApart)
     (packed_apart : PackedNamesAreApart) (stay : PropertiesStay) (packed_same : PackedModelsSatisfyTheSame) where
@@ -62,9 +62,9 @@ module _ (decide : NegationsDecideWithoutCuts) (plain_same : PlainModelsKeepThei
       ap (λ x. satisfies x (negation f)) own.model
       ∙ ap (λ x. satisfies (plain n) (negation x)) own.formula
       ∙ sym (ap (satisfies (plain n)) (plain-dual g))
-      ∙ same (dual g)
+      ∙ same (dual g) (dual-counts g own.counts_nothing)
       ∙ one-of-model n g (dual g) text own.apart (is-dual g) closed-g at none
-      ∙ sym (ap not (same g))
+      ∙ sym (ap not (same g own.counts_nothing))
       ∙ sym (ap (λ x. not (satisfies (plain n) x)) own.formula)
       ∙ sym (ap (λ x. not (satisfies x f)) own.model)
 

@@ -7,16 +7,17 @@ use Rattle.pb_model_translation.specs.Apart.{HasNamesApart}
 use Rattle.pb_protocol_meaning.specs.Syntax.{Formula, Protocol}
 use Rattle.pb_protocol_unfolding.specs.Hygiene.{HidesNothing}
 use Rattle.pb_protocol_unfolding.specs.ModelLaws.{flat_formula, flat_model}
-use Rattle.pb_protocol_unfolding.specs.Plain.{plain, plain_formula, IsPlain}
+use Rattle.pb_protocol_unfolding.specs.Plain.{plain, plain_formula, FormulaCountsNothing, IsPlain}
 use Rattle.pb_protocol_packing.specs.Groups.{packed, said_formula}
 use Rattle.pb_protocol_packing.specs.Packable.{IsPackable}
 
--- a plain protocol is its own model
+-- a plain protocol is its own model; nothing counts there
 pub record IsOwn (m : Protocol) (f : Formula) (n : flat.Model) (g : flat.Formula) : Type 0 where
   pub is_plain : IsPlain n
   pub apart : HasNamesApart n
   pub model : m ≡ plain n
   pub formula : f ≡ plain_formula g
+  pub counts_nothing : FormulaCountsNothing g
 
 -- else it is unfolded
 pub record IsUnfolded (m : Protocol) (f : Formula) (n : flat.Model) (g : flat.Formula)

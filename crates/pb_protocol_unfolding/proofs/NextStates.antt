@@ -10,8 +10,7 @@ use Rattle.pb_model_meaning.specs.Steps.{State, assigned_term}
 use Rattle.pb_model_meaning.specs.Steps as flat_steps
 use Rattle.pb_protocol_folding.specs.Names.{IsNot, AreDistinct}
 use Rattle.pb_protocol_meaning.specs.Syntax.{Protocol}
-use Rattle.pb_protocol_meaning.specs.Meaning.{meaning, meanings}
-use Rattle.pb_protocol_meaning.specs.Steps.{Position, data_of, functions_at, value_at, values_at, value_after, state_after, own_values, is_enabled, next_state}
+use Rattle.pb_protocol_meaning.specs.Steps.{Position, data_of, functions_at, value_at, Update, updates, value_after, state_after, own_values, is_enabled, next_state}
 use Rattle.pb_protocol_unfolding.specs.PutIn.{TermScope}
 use Rattle.pb_protocol_unfolding.specs.Unfolding.{Element, name_of, variable_of, all_elements, forms_of, term_after, Instance, unfolded_step, unfolded, written, values_of, valued}
 use Rattle.pb_protocol_unfolding.specs.Hygiene.{HidesNothing}
@@ -74,25 +73,28 @@ module _ (m : Protocol) (hides : HidesNothing m) (s : State) (i : Instance) (own
   scope-is : valued (data_of m) (elements_at m s) ρ ≡ here
   scope-is = scope-values m ρ scope s ∙ written-scope m i.step.variables i.own
 
+  -- what the step's assignments do
+  abbrev done : List Update
+  done = updates (data_of m) (functions_at m s) here i.step.assignments
+
   element-after : (e : Element) (v : Value) → AreSettled m e.index → evaluated (Term.Named (name_of e)) ≡ v →
       evaluated (term_of_own m i e)
-      ≡ value_after (value_at m s here) (values_at m s here) i.step.assignments e.array (values_of m e.index) v
+      ≡ value_after done e.array (values_of m e.index) v
   element-after e v settled before =
       term_after-value (data_of m) (elements_at m s) (forms_of m) (functions_at m s) (means-here m hides s) ρ i.step.assignments e (Term.Named (name_of e)) ∙
-      (ap (λ d. value_after (meaning (data_of m) (functions_at m s) d) (meanings (data_of m) (functions_at m s) d)
-      i.step.assignments e.array (map evaluated e.index) (evaluated (Term.Named (name_of e)))) scope-is ∙
-      (ap (λ vs. value_after (value_at m s here) (values_at m s here) i.step.assignments e.array vs (evaluated (Term.Named (name_of e)))) (settled-values m e.index settled s) ∙
-      ap (value_after (value_at m s here) (values_at m s here) i.step.assignments e.array (values_of m e.index)) before))
+      (ap (λ d. value_after (updates (data_of m) (functions_at m s) d i.step.assignments) e.array (map evaluated e.index) (evaluated (Term.Named (name_of e)))) scope-is ∙
+      (ap (λ vs. value_after done e.array vs (evaluated (Term.Named (name_of e)))) (settled-values m e.index settled s) ∙
+      ap (value_after done e.array (values_of m e.index)) before))
 
   states-after : (es : List Element) (vs : State) → IndicesAreSettled m es → Finds (data_of m) (elements_at m s) (map name_of es) vs → (assignments : List flat.Assignment) →
       AllFound (term_of_own m i) assignments es →
       flat_steps.state_after evaluated assignments (map variable_of es) vs
-      ≡ state_after (value_at m s here) (values_at m s here) i.step.assignments (map (position_of m hides) es) vs
+      ≡ state_after done (map (position_of m hides) es) vs
   states-after [] [] settled finds assignments found = refl
   states-after [] (v ∷ vs) settled finds assignments found = refl
   states-after (e ∷ es) [] settled finds assignments found = refl
   states-after (e ∷ es) (v ∷ vs) settled finds assignments found =
-      let first = value_after (value_at m s here) (values_at m s here) i.step.assignments e.array (values_of m e.index) v in
+      let first = value_after done e.array (values_of m e.index) v in
       ap (λ o. flat_steps.value_after evaluated o v ∷ flat_steps.state_after evaluated assignments (map variable_of es) vs) found.0 ∙
       (ap (λ u. u ∷ flat_steps.state_after evaluated assignments (map variable_of es) vs)
       (element-after e v settled.0 finds.0) ∙
@@ -102,7 +104,7 @@ module _ (m : Protocol) (hides : HidesNothing m) (s : State) (i : Instance) (own
       flat_steps.next_state (unfolded m) s (unfolded_step m i) [] ≡ next_state m s i.step (values_of m i.own)
   next-here settled =
       states-after (all_elements m) s settled (found-here m hides s) (made (term_of_own m i) (all_elements m)) (all-found (term_of_own m i) (all_elements m) hides.elements) ∙
-      ap (λ (ps : List Position). state_after (value_at m s here) (values_at m s here) i.step.assignments ps s) (positions-are m hides)
+      ap (λ (ps : List Position). state_after done ps s) (positions-are m hides)
 
   pub enabled-here : flat_steps.is_enabled (unfolded m) s (unfolded_step m i) [] ≡ is_enabled m s i.step (values_of m i.own)
   enabled-here =

@@ -1,6 +1,6 @@
 -- A flat model means as a protocol what it means.
 use Rattle.std.proofs.Common.{◌≡◌, ℕ, zero, suc, Bool, true, false, true≢false, not, ◌&&◌, ◌||◌, cond, if◌then◌else◌, List, [], ◌∷◌, ◌++◌, map, flat_map, drop, refl, sym, ap, ◌∙◌, subst}
-use Rattle.std.specs.Prelude.{filter, neg_ℤ, Option, Some, None}
+use Rattle.std.specs.Prelude.{filter, neg_ℤ, pos, Option, Some, None}
 use Rattle.std.specs.List.{list_any, list_all}
 use Rattle.std.proofs.Math.Path.{fun_ext}
 use Rattle.pb_fixpoint.specs.Solution.{iterate, start}
@@ -19,10 +19,11 @@ use Rattle.pb_model_meaning.specs.Satisfaction.{States, Valuation, with_set, no_
 use Rattle.pb_model_meaning.specs.Satisfaction as flat_satisfaction
 use Rattle.pb_protocol_folding.specs.Names.{IsNot, AreDistinct, names_of, AssignOnce}
 use Rattle.pb_protocol_meaning.specs.Meaning as function
-use Rattle.pb_protocol_meaning.specs.Meaning.{Functions, no_functions, named_meaning, applied_meaning, given_arguments, meaning, meanings, same_values}
-use Rattle.pb_protocol_meaning.specs.Steps.{Position, positions_of, state_carriers, is_state, function_at, variables_at, functions_at, value_at, values_at, initial_values, initial_state, value_after, state_after, own_values, is_enabled, next_state, has_step, successors_by, successors}
+use Rattle.pb_protocol_meaning.specs.Meaning.{Functions, no_functions, named_meaning, applied_meaning, given_arguments, meaning, meanings, count}
+use Rattle.pb_protocol_meaning.specs.Steps.{Position, positions_of, state_carriers, is_state, function_at, variables_at, functions_at, value_at, initial_values, initial_state, Update, updates, value_after, state_after, own_values, is_enabled, next_state, has_step, successors_by, successors}
 use Rattle.pb_protocol_meaning.specs.Satisfaction.{is_truth, holds_at, satisfying, satisfies}
-use Rattle.pb_protocol_unfolding.specs.Plain.{plain_variable, plain_assignment, plain_step, plain_set, plain_formula, plain, AreAsMany, IsPlain, PlainModelsKeepTheirMeaning}
+use Rattle.pb_protocol_unfolding.specs.Plain.{plain_variable, plain_assignment, plain_step, plain_set, plain_formula, plain, AreAsMany, CountsNothing, CountNothing, AssignmentsCountNothing, StepsCountNothing, FormulaCountsNothing, IsPlain}
+use Rattle.pb_protocol_unfolding.specs.Plain.{PlainModelsKeepTheirMeaning}
 use Rattle.pb_protocol_folding.proofs.FoldedModels.{same-names, none-left}
 
 -- ---- terms
@@ -57,22 +58,26 @@ module _ (spec : Spec) (functions : Functions) (a : data_value.Assignment) (thos
       ap (λ (p : Value → Bool). data_value.of_values q p (carrier_of spec x.sort)) (fun_ext (λ v. quantified-same q xs P Q h ((x.name, v) ∷ c)))
 
   mutual
-    pub meaning-same : (x : Term) (c : data_value.Assignment) → meaning spec functions c x ≡ value spec (c ++ a) x
-    meaning-same (Term.Truth b) c = refl
-    meaning-same (Term.Number n) c = refl
-    meaning-same (Term.Named x) c = looked_up-both c a x (functions x []) (sym (those.bare x)) spec
-    meaning-same (Term.Not x) c = ap (λ v. of_bool (not (is_true v))) (meaning-same x c)
-    meaning-same (Term.Negative x) c = ap neg_ℤ (meaning-same x c)
-    meaning-same (Term.Binary o x y) c = ap (λ v. binary o v (meaning spec functions c y)) (meaning-same x c) ∙ ap (binary o (value spec (c ++ a) x)) (meaning-same y c)
-    meaning-same (Term.Apply f xs) c =
-        ap (λ o. applied_meaning spec o f (meanings spec functions c xs)) (none-given f (meanings spec functions c xs)) ∙
-        ap (function_value spec f) (meanings-same xs c)
-    meaning-same (Term.Quantified q xs x) c =
-        ap of_bool (quantified-same q xs (λ b. is_true (meaning spec functions b x)) (λ b. is_true (value spec b x)) (λ b. ap is_true (meaning-same x b)) c)
+    -- where nothing is counted
+    pub meaning-same : (x : Term) → CountsNothing x → (c : data_value.Assignment) → meaning spec functions c x ≡ value spec (c ++ a) x
+    meaning-same (Term.Truth b) none c = refl
+    meaning-same (Term.Number n) none c = refl
+    meaning-same (Term.Named x) none c = looked_up-both c a x (functions x []) (sym (those.bare x)) spec
+    meaning-same (Term.Not x) none c = ap (λ v. of_bool (not (is_true v))) (meaning-same x none c)
+    meaning-same (Term.Negative x) none c = ap neg_ℤ (meaning-same x none c)
+    meaning-same (Term.Binary o x y) none c =
+        ap (λ v. binary o v (meaning spec functions c y)) (meaning-same x none.0 c) ∙ ap (binary o (value spec (c ++ a) x)) (meaning-same y none.1 c)
+    meaning-same (Term.Apply f xs) none c =
+        ap (λ b. if b then pos (count spec functions c xs) else applied_meaning spec (given_arguments functions f (meanings spec functions c xs)) f (meanings spec functions c xs)) none.0 ∙
+        (ap (λ o. applied_meaning spec o f (meanings spec functions c xs)) (none-given f (meanings spec functions c xs)) ∙
+        ap (function_value spec f) (meanings-same xs none.1 c))
+    meaning-same (Term.Quantified q xs x) none c =
+        ap of_bool (quantified-same q xs (λ b. is_true (meaning spec functions b x)) (λ b. is_true (value spec b x)) (λ b. ap is_true (meaning-same x none b)) c)
 
-    pub meanings-same : (xs : Terms) (c : data_value.Assignment) → meanings spec functions c xs ≡ values spec (c ++ a) xs
-    meanings-same Terms.NoTerms c = refl
-    meanings-same (Terms.Then x xs) c = ap (λ v. v ∷ meanings spec functions c xs) (meaning-same x c) ∙ ap (λ vs. value spec (c ++ a) x ∷ vs) (meanings-same xs c)
+    pub meanings-same : (xs : Terms) → CountNothing xs → (c : data_value.Assignment) → meanings spec functions c xs ≡ values spec (c ++ a) xs
+    meanings-same Terms.NoTerms none c = refl
+    meanings-same (Terms.Then x xs) none c =
+        ap (λ v. v ∷ meanings spec functions c xs) (meaning-same x none.0 c) ∙ ap (λ vs. value spec (c ++ a) x ∷ vs) (meanings-same xs none.1 c)
 
 no-names : AreThose no_functions []
 no-names = record { bare = λ x. refl; applied = λ f v vs. refl }
@@ -149,43 +154,55 @@ within-values spec (x ∷ xs) (v ∷ s) h = within-values spec xs s (by (contain
 
 -- ---- what is assigned
 
-unassigned : (f : Term → Value) (g : Terms → Tuple) (list : List flat.Assignment) (x : Name) (v : Value) → IsNot x (map (λ (b : flat.Assignment). b.variable) list) →
-    value_after f g (map plain_assignment list) x [] v ≡ v
-unassigned f g [] x v new = refl
-unassigned f g (a ∷ list) x v new =
-    ap (λ b. value_after f g (map plain_assignment list) x [] (if b && same_values (g Terms.NoTerms) [] then f a.term else v)) new.0 ∙ unassigned f g list x v new.1
+module _ (spec : Spec) (functions : Functions) (c : data_value.Assignment) where
+  -- what plain assignments do, one each
+  abbrev done : List flat.Assignment → List Update
+  done list = updates spec functions c (map plain_assignment list)
 
-after-same : (f : Term → Value) (g : Terms → Tuple) → g Terms.NoTerms ≡ [] → (list : List flat.Assignment) (x : Name) (v : Value) →
-    AreDistinct (map (λ (b : flat.Assignment). b.variable) list) →
-    value_after f g (map plain_assignment list) x [] v ≡ flat_steps.value_after f (flat_steps.assigned_term list x) v
-after-same f g e [] x v apart = refl
-after-same f g e (a ∷ list) x v apart = by (same_name a.variable x) refl (after-same f g e list x v apart.1)
-  where
-    by : (b : Bool) → same_name a.variable x ≡ b → value_after f g (map plain_assignment list) x [] v ≡ flat_steps.value_after f (flat_steps.assigned_term list x) v →
-        value_after f g (map plain_assignment list) x [] (if b && same_values (g Terms.NoTerms) [] then f a.term else v)
-        ≡ flat_steps.value_after f (if b then Some a.term else flat_steps.assigned_term list x) v
-    by true h others =
-        ap (λ vs. value_after f g (map plain_assignment list) x [] (if same_values vs [] then f a.term else v)) e ∙
-        unassigned f g list x (f a.term) (subst (λ y. IsNot y (map (λ (b : flat.Assignment). b.variable) list)) (same-names a.variable x h) apart.0)
-    by false h others = others
+  unassigned : (list : List flat.Assignment) (x : Name) (v : Value) → IsNot x (map (λ (b : flat.Assignment). b.variable) list) → value_after (done list) x [] v ≡ v
+  unassigned [] x v new = refl
+  unassigned (a ∷ list) x v new =
+      ap (λ b. value_after (done list) x [] (if b && true then meaning spec functions c a.term else v)) new.0 ∙ unassigned list x v new.1
 
-after-each : (spec : Spec) (f h : Term → Value) (g : Terms → Tuple) → g Terms.NoTerms ≡ [] → ((x : Term) → f x ≡ h x) → (list : List flat.Assignment) →
-    AreDistinct (map (λ (b : flat.Assignment). b.variable) list) → (xs : List Variable) (vs : State) →
-    state_after f g (map plain_assignment list) (map position xs) vs ≡ flat_steps.state_after h list xs vs
-after-each spec f h g e same list apart [] vs = refl
-after-each spec f h g e same list apart (x ∷ xs) [] = refl
-after-each spec f h g e same list apart (x ∷ xs) (v ∷ vs) =
-    let others = state_after f g (map plain_assignment list) (map position xs) vs in
-    ap (λ u. u ∷ others) (after-same f g e list x.name v apart ∙ ap (λ (k : Term → Value). flat_steps.value_after k (flat_steps.assigned_term list x.name) v) (fun_ext same)) ∙
-    ap (λ us. flat_steps.value_after h (flat_steps.assigned_term list x.name) v ∷ us) (after-each spec f h g e same list apart xs vs)
+  after-same : (list : List flat.Assignment) (x : Name) (v : Value) → AreDistinct (map (λ (b : flat.Assignment). b.variable) list) →
+      value_after (done list) x [] v ≡ flat_steps.value_after (meaning spec functions c) (flat_steps.assigned_term list x) v
+  after-same [] x v apart = refl
+  after-same (a ∷ list) x v apart = by (same_name a.variable x) refl (after-same list x v apart.1)
+    where
+      by : (b : Bool) → same_name a.variable x ≡ b → value_after (done list) x [] v ≡ flat_steps.value_after (meaning spec functions c) (flat_steps.assigned_term list x) v →
+          value_after (done list) x [] (if b && true then meaning spec functions c a.term else v)
+          ≡ flat_steps.value_after (meaning spec functions c) (if b then Some a.term else flat_steps.assigned_term list x) v
+      by true h others = unassigned list x (meaning spec functions c a.term) (subst (λ y. IsNot y (map (λ (b : flat.Assignment). b.variable) list)) (same-names a.variable x h) apart.0)
+      by false h others = others
 
-initial-same : (spec : Spec) (xs : List Variable) (ts : Terms) → AreAsMany xs ts → initial_values spec (map plain_variable xs) ts ≡ values spec [] ts
-initial-same spec [] Terms.NoTerms h = refl
-initial-same spec [] (Terms.Then t ts) h = absurd h
-initial-same spec (x ∷ xs) Terms.NoTerms h = absurd h
-initial-same spec (x ∷ xs) (Terms.Then t ts) h =
-    ap (λ v. v ∷ initial_values spec (map plain_variable xs) ts) (meaning-same spec no_functions [] no-names t []) ∙
-    ap (λ vs. value spec [] t ∷ vs) (initial-same spec xs ts h)
+  -- of what is assigned the terms have the same values
+  term-same : (h : Term → Value) → ((x : Term) → CountsNothing x → meaning spec functions c x ≡ h x) → (list : List flat.Assignment) → AssignmentsCountNothing list → (x : Name) (v : Value) →
+      flat_steps.value_after (meaning spec functions c) (flat_steps.assigned_term list x) v ≡ flat_steps.value_after h (flat_steps.assigned_term list x) v
+  term-same h same [] none x v = refl
+  term-same h same (a ∷ list) none x v = by (same_name a.variable x) (term-same h same list none.1 x v)
+    where
+      by : (b : Bool) → flat_steps.value_after (meaning spec functions c) (flat_steps.assigned_term list x) v ≡ flat_steps.value_after h (flat_steps.assigned_term list x) v →
+          flat_steps.value_after (meaning spec functions c) (if b then Some a.term else flat_steps.assigned_term list x) v
+          ≡ flat_steps.value_after h (if b then Some a.term else flat_steps.assigned_term list x) v
+      by true others = same a.term none.0
+      by false others = others
+
+  after-each : (h : Term → Value) → ((x : Term) → CountsNothing x → meaning spec functions c x ≡ h x) → (list : List flat.Assignment) → AssignmentsCountNothing list →
+      AreDistinct (map (λ (b : flat.Assignment). b.variable) list) → (xs : List Variable) (vs : State) →
+      state_after (done list) (map position xs) vs ≡ flat_steps.state_after h list xs vs
+  after-each h same list none apart [] vs = refl
+  after-each h same list none apart (x ∷ xs) [] = refl
+  after-each h same list none apart (x ∷ xs) (v ∷ vs) =
+      ap (λ u. u ∷ state_after (done list) (map position xs) vs) (after-same list x.name v apart ∙ term-same h same list none x.name v) ∙
+      ap (λ us. flat_steps.value_after h (flat_steps.assigned_term list x.name) v ∷ us) (after-each h same list none apart xs vs)
+
+initial-same : (spec : Spec) (xs : List Variable) (ts : Terms) → AreAsMany xs ts → CountNothing ts → initial_values spec no_functions (map plain_variable xs) ts ≡ values spec [] ts
+initial-same spec [] Terms.NoTerms h none = refl
+initial-same spec [] (Terms.Then t ts) h none = absurd h
+initial-same spec (x ∷ xs) Terms.NoTerms h none = absurd h
+initial-same spec (x ∷ xs) (Terms.Then t ts) h none =
+    ap (λ v. v ∷ initial_values spec no_functions (map plain_variable xs) ts) (meaning-same spec no_functions [] no-names t none.0 []) ∙
+    ap (λ vs. value spec [] t ∷ vs) (initial-same spec xs ts h none.1)
 
 -- ---- models
 
@@ -209,19 +226,19 @@ module _ (m : flat.Model) (is-plain : IsPlain m) where
       nothing (Some v) = refl
       nothing None = refl
 
-  value-same : (s : State) → IsState s → (c : data_value.Assignment) (x : Term) → value_at (plain m) s c x ≡ value spec (c ++ state_at s) x
-  value-same s at c x = meaning-same spec (functions_at (plain m) s) (state_at s) (functions-same s at) x c
+  value-same : (s : State) → IsState s → (c : data_value.Assignment) (x : Term) → CountsNothing x → value_at (plain m) s c x ≡ value spec (c ++ state_at s) x
+  value-same s at c x none = meaning-same spec (functions_at (plain m) s) (state_at s) (functions-same s at) x none c
 
-  value-own : (s : State) → IsState s → (a : flat.Step) (own : Tuple) (x : Term) → value_at (plain m) s (own_values (plain_step a) own) x ≡ value spec (flat_steps.in_scope m s a own) x
-  value-own s at a own x = value-same s at (own_values (plain_step a) own) x ∙ ap (λ (b : data_value.Assignment). value spec b x) (own-same a.variables own [] (state_at s))
+  value-own : (s : State) → IsState s → (a : flat.Step) (own : Tuple) (x : Term) → CountsNothing x
+      → value_at (plain m) s (own_values (plain_step a) own) x ≡ value spec (flat_steps.in_scope m s a own) x
+  value-own s at a own x none = value-same s at (own_values (plain_step a) own) x none ∙ ap (λ (b : data_value.Assignment). value spec b x) (own-same a.variables own [] (state_at s))
 
-  next-same : (s : State) → IsState s → (a : flat.Step) → AreDistinct (map (λ (b : flat.Assignment). b.variable) a.assignments) → (own : Tuple) →
+  next-same : (s : State) → IsState s → (a : flat.Step) → AreDistinct (map (λ (b : flat.Assignment). b.variable) a.assignments) → AssignmentsCountNothing a.assignments → (own : Tuple) →
       next_state (plain m) s (plain_step a) own ≡ flat_steps.next_state m s a own
-  next-same s at a apart own =
-      let f = value_at (plain m) s (own_values (plain_step a) own) in
-      let g = values_at (plain m) s (own_values (plain_step a) own) in
-      ap (λ (ps : List Position). state_after f g (map plain_assignment a.assignments) ps s) (plain-positions spec m.variables) ∙
-      after-each spec f (value spec (flat_steps.in_scope m s a own)) g refl (value-own s at a own) a.assignments apart m.variables s
+  next-same s at a apart none own =
+      let c = own_values (plain_step a) own in
+      ap (λ (ps : List Position). state_after (updates spec (functions_at (plain m) s) c (map plain_assignment a.assignments)) ps s) (plain-positions spec m.variables) ∙
+      after-each spec (functions_at (plain m) s) c (value spec (flat_steps.in_scope m s a own)) (value-own s at a own) a.assignments none apart m.variables s
 
   -- ---- sets of steps
 
@@ -232,18 +249,18 @@ module _ (m : flat.Model) (is-plain : IsPlain m) where
   set-same (flat.StepSet.Union A B) x own =
       ap (λ b. b || has_step (plain m) [] (plain_set B) x own) (set-same A x own) ∙ ap (λ b. flat_steps.has_step A x || b) (set-same B x own)
 
-  by-same : (A : flat.StepSet) (s : State) → IsState s → (steps : List flat.Step) → AssignOnce steps →
+  by-same : (A : flat.StepSet) (s : State) → IsState s → (steps : List flat.Step) → AssignOnce steps → StepsCountNothing steps →
       flat_map (successors_by (plain m) [] (plain_set A) s) (map plain_step steps)
       ≡ flat_map (flat_steps.successors_by m s) (filter (λ (a : flat.Step). flat_steps.has_step A a.name) steps)
-  by-same A s at [] once = refl
-  by-same A s at (a ∷ steps) once =
+  by-same A s at [] once none = refl
+  by-same A s at (a ∷ steps) once none =
       let all = tuples (carriers_of spec a.variables) in
       let rest = flat_map (successors_by (plain m) [] (plain_set A) s) (map plain_step steps) in
       ap (λ (p : Tuple → Bool). map (next_state (plain m) s (plain_step a)) (filter p all) ++ rest)
       (fun_ext (λ own. ap (λ b. b && is_enabled (plain m) s (plain_step a) own) (set-same A a.name own) ∙
-      ap (λ v. flat_steps.has_step A a.name && is_true v) (value-own s at a own a.guard))) ∙
-      (ap (λ (f : Tuple → State). map f (filter (λ own. flat_steps.has_step A a.name && flat_steps.is_enabled m s a own) all) ++ rest) (fun_ext (next-same s at a once.0)) ∙
-      by (flat_steps.has_step A a.name) (by-same A s at steps once.1))
+      ap (λ v. flat_steps.has_step A a.name && is_true v) (value-own s at a own a.guard none.0.0))) ∙
+      (ap (λ (f : Tuple → State). map f (filter (λ own. flat_steps.has_step A a.name && flat_steps.is_enabled m s a own) all) ++ rest) (fun_ext (next-same s at a once.0 none.0.1)) ∙
+      by (flat_steps.has_step A a.name) (by-same A s at steps once.1 none.1))
     where
       by : (b : Bool) →
           flat_map (successors_by (plain m) [] (plain_set A) s) (map plain_step steps) ≡ flat_map (flat_steps.successors_by m s) (filter (λ (a : flat.Step). flat_steps.has_step A a.name) steps) →
@@ -256,7 +273,7 @@ module _ (m : flat.Model) (is-plain : IsPlain m) where
           (none-left (tuples (carriers_of spec a.variables))) ∙ e
 
   successors-same : (A : flat.StepSet) (s : State) → IsState s → successors (plain m) [] (plain_set A) s ≡ flat_steps.successors m A s
-  successors-same A s at = by-same A s at m.steps is-plain.assignments
+  successors-same A s at = by-same A s at m.steps is-plain.assignments is-plain.steps_count_nothing
 
   -- ---- formulas
 
@@ -294,29 +311,31 @@ module _ (m : flat.Model) (is-plain : IsPlain m) where
       by true e = agree s e
       by false e = truth-same f
 
-  satisfying-same : (f : flat.Formula) (V W : Valuation) → ((X : Name) → Agree (V X) (W X)) → Agree (satisfying (plain m) V [] (plain_formula f)) (flat_satisfaction.satisfying m W f)
-  satisfying-same (flat.Formula.Truth b) V W h s at = refl
-  satisfying-same (flat.Formula.Data x) V W h s at = ap is_true (value-same s at [] x)
-  satisfying-same (flat.Formula.Named X) V W h s at = h X s at
-  satisfying-same (flat.Formula.Not f) V W h s at = ap not (satisfying-same f V W h s at)
-  satisfying-same (flat.Formula.And f g) V W h s at =
-      ap (λ b. b && satisfying (plain m) V [] (plain_formula g) s) (satisfying-same f V W h s at) ∙ ap (λ b. flat_satisfaction.satisfying m W f s && b) (satisfying-same g V W h s at)
-  satisfying-same (flat.Formula.Or f g) V W h s at =
-      ap (λ b. b || satisfying (plain m) V [] (plain_formula g) s) (satisfying-same f V W h s at) ∙ ap (λ b. flat_satisfaction.satisfying m W f s || b) (satisfying-same g V W h s at)
-  satisfying-same (flat.Formula.Implies f g) V W h s at =
-      ap (λ b. not b || satisfying (plain m) V [] (plain_formula g) s) (satisfying-same f V W h s at) ∙ ap (λ b. not (flat_satisfaction.satisfying m W f s) || b) (satisfying-same g V W h s at)
-  satisfying-same (flat.Formula.Box A f) V W h s at =
+  satisfying-same : (f : flat.Formula) → FormulaCountsNothing f → (V W : Valuation) → ((X : Name) → Agree (V X) (W X))
+      → Agree (satisfying (plain m) V [] (plain_formula f)) (flat_satisfaction.satisfying m W f)
+  satisfying-same (flat.Formula.Truth b) none V W h s at = refl
+  satisfying-same (flat.Formula.Data x) none V W h s at = ap is_true (value-same s at [] x none)
+  satisfying-same (flat.Formula.Named X) none V W h s at = h X s at
+  satisfying-same (flat.Formula.Not f) none V W h s at = ap not (satisfying-same f none V W h s at)
+  satisfying-same (flat.Formula.And f g) none V W h s at =
+      ap (λ b. b && satisfying (plain m) V [] (plain_formula g) s) (satisfying-same f none.0 V W h s at) ∙ ap (λ b. flat_satisfaction.satisfying m W f s && b) (satisfying-same g none.1 V W h s at)
+  satisfying-same (flat.Formula.Or f g) none V W h s at =
+      ap (λ b. b || satisfying (plain m) V [] (plain_formula g) s) (satisfying-same f none.0 V W h s at) ∙ ap (λ b. flat_satisfaction.satisfying m W f s || b) (satisfying-same g none.1 V W h s at)
+  satisfying-same (flat.Formula.Implies f g) none V W h s at =
+      ap (λ b. not b || satisfying (plain m) V [] (plain_formula g) s) (satisfying-same f none.0 V W h s at)
+      ∙ ap (λ b. not (flat_satisfaction.satisfying m W f s) || b) (satisfying-same g none.1 V W h s at)
+  satisfying-same (flat.Formula.Box A f) none V W h s at =
       ap (λ (p : State → Bool). list_all p (successors (plain m) [] (plain_set A) s))
-      (fun_ext (holds-same f (satisfying (plain m) V [] (plain_formula f)) (flat_satisfaction.satisfying m W f) (satisfying-same f V W h))) ∙
+      (fun_ext (holds-same f (satisfying (plain m) V [] (plain_formula f)) (flat_satisfaction.satisfying m W f) (satisfying-same f none V W h))) ∙
       ap (list_all (flat_satisfaction.holds_at m f (flat_satisfaction.satisfying m W f))) (successors-same A s at)
-  satisfying-same (flat.Formula.Diamond A f) V W h s at =
+  satisfying-same (flat.Formula.Diamond A f) none V W h s at =
       ap (λ (p : State → Bool). list_any p (successors (plain m) [] (plain_set A) s))
-      (fun_ext (holds-same f (satisfying (plain m) V [] (plain_formula f)) (flat_satisfaction.satisfying m W f) (satisfying-same f V W h))) ∙
+      (fun_ext (holds-same f (satisfying (plain m) V [] (plain_formula f)) (flat_satisfaction.satisfying m W f) (satisfying-same f none V W h))) ∙
       ap (list_any (flat_satisfaction.holds_at m f (flat_satisfaction.satisfying m W f))) (successors-same A s at)
-  satisfying-same (flat.Formula.Fixpoint sign X f) V W h s at =
+  satisfying-same (flat.Formula.Fixpoint sign X f) none V W h s at =
       ap (λ n. iterate n (λ S. satisfying (plain m) (with_set V X S) [] (plain_formula f)) (start sign) s) (ap tuple_count carriers-same) ∙
       iterated (flat_steps.state_count m) (λ S. satisfying (plain m) (with_set V X S) [] (plain_formula f)) (λ S. flat_satisfaction.satisfying m (with_set W X S) f)
-      (λ S T agree. satisfying-same f (with_set V X S) (with_set W X T) (with-sets S T agree)) (start sign) (start sign) (λ t e. refl) s at
+      (λ S T agree. satisfying-same f none (with_set V X S) (with_set W X T) (with-sets S T agree)) (start sign) (start sign) (λ t e. refl) s at
     where
       with-sets : (S T : States) → Agree S T → (Y : Name) → Agree (with_set V X S Y) (with_set W X T Y)
       with-sets S T agree Y t e = by (same_name X Y)
@@ -326,17 +345,17 @@ module _ (m : flat.Model) (is-plain : IsPlain m) where
           by false = h Y t e
 
   initial-states : initial_state (plain m) ≡ flat_steps.initial_state m
-  initial-states = initial-same spec m.variables m.initial is-plain.initial
+  initial-states = initial-same spec m.variables m.initial is-plain.initial is-plain.initial_counts_nothing
 
-  satisfies-same : (f : flat.Formula) → satisfies (plain m) (plain_formula f) ≡ flat_satisfaction.satisfies m f
-  satisfies-same f =
+  satisfies-same : (f : flat.Formula) → FormulaCountsNothing f → satisfies (plain m) (plain_formula f) ≡ flat_satisfaction.satisfies m f
+  satisfies-same f none =
       ap (λ (s : State). is_state (plain m) s && satisfying (plain m) no_sets [] (plain_formula f) s) initial-states ∙
       (ap (λ b. b && satisfying (plain m) no_sets [] (plain_formula f) (flat_steps.initial_state m)) (states-same (flat_steps.initial_state m)) ∙
       by (flat_steps.is_state m (flat_steps.initial_state m)) refl)
     where
       by : (b : Bool) → flat_steps.is_state m (flat_steps.initial_state m) ≡ b →
           (b && satisfying (plain m) no_sets [] (plain_formula f) (flat_steps.initial_state m)) ≡ (b && flat_satisfaction.satisfying m no_sets f (flat_steps.initial_state m))
-      by true e = satisfying-same f no_sets no_sets (λ X t e. refl) (flat_steps.initial_state m) e
+      by true e = satisfying-same f none no_sets no_sets (λ X t e. refl) (flat_steps.initial_state m) e
       by false e = refl
 
 pub plain_models_keep_their_meaning : PlainModelsKeepTheirMeaning

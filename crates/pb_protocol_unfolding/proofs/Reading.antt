@@ -7,7 +7,6 @@ use Rattle.pb_base_values.specs.Carrier.{Value, Carrier, Tuple, tuples}
 use Rattle.pb_text_meaning.specs.Syntax.{Name, same_name, Variable, Operator, Term, Terms, Spec}
 use Rattle.pb_text_meaning.specs.Sorts.{carrier_of}
 use Rattle.pb_text_meaning.specs.Formula.{carriers_of}
-use Rattle.pb_text_meaning.specs.Functions.{named_function}
 use Rattle.pb_text_meaning.specs.Value.{Assignment, is_true, value, values}
 use Rattle.pb_text_meaning.specs.Meaning.{assigned}
 use Rattle.pb_model_meaning.specs.Steps.{State}
@@ -20,13 +19,8 @@ use Rattle.pb_protocol_unfolding.specs.PutIn as form
 use Rattle.pb_protocol_unfolding.specs.Unfolding.{valued}
 use Rattle.pb_protocol_unfolding.specs.TermLaws.{KeepsWrittenValues, HasValue, FormsMean, Means, DefinitionsArePutIn}
 use Rattle.pb_text_meaning.proofs.Truths.{is_true-of_bool}
-use Rattle.pb_protocol_unfolding.proofs.PutIn.{put_in-value}
+use Rattle.pb_protocol_unfolding.proofs.PutIn.{choice-value, put_in-value}
 use Rattle.pb_protocol_unfolding.proofs.WrittenLaws.{value-self, value-not, Differs, Differ, values-differ, same-terms}
-
-pub choice-value : (spec : Spec) (a : Assignment) (b x y : Term) →
-    value spec a (choice b x y) ≡ (if is_true (value spec a b) then value spec a x else value spec a y)
-unfolding named_function
-choice-value spec a b x y = refl
 
 last-value : (spec : Spec) (a : Assignment) (t k x : Term) → value spec a (last_choice t k x) ≡ value spec a x
 last-value spec a t k x =

@@ -1,6 +1,6 @@
--- Two caches of one line: parts of their flat model.
+-- Two caches of one line, and a round of votes: parts of their flat models.
 use Rattle.std.specs.Prelude.{true, false, [], ◌∷◌, codes}
-use Rattle.pb_text_meaning.specs.Syntax.{Name, Term, Terms}
+use Rattle.pb_text_meaning.specs.Syntax.{Name, Operator, Term, Terms}
 use Rattle.pb_model_meaning.specs.Syntax as flat
 use Rattle.pb_model_meaning.specs.Examples.{both, same, becomes, step}
 use Rattle.pb_protocol_folding.specs.Folding.{folded}
@@ -8,8 +8,10 @@ use Rattle.pb_protocol_folding.specs.FoldedModels.{folded_step}
 use Rattle.pb_protocol_meaning.specs.Syntax.{Formula}
 use Rattle.pb_protocol_meaning.specs.Steps.{data_of}
 use Rattle.pb_protocol_meaning.specs.Examples.{caches, read, grant, c1, invalid, shared}
-use Rattle.pb_protocol_meaning.specs.Examples.{modified, owner, negated}
+use Rattle.pb_protocol_meaning.specs.Examples.{modified, owner, negated, round_of_votes}
+use Rattle.pb_protocol_meaning.specs.Examples.{votes_counted, reset}
 use Rattle.pb_protocol_unfolding.specs.Written.{element_of}
+use Rattle.pb_protocol_unfolding.specs.PutIn.{choice, one_if}
 use Rattle.pb_protocol_unfolding.specs.Unfolding.{Instance, unfolded_term, unfolded_step}
 use Rattle.pb_protocol_unfolding.specs.ModelLaws as model
 use Rattle.pb_protocol_unfolding.specs.ModelLaws.{flat_model}
@@ -71,3 +73,51 @@ abbrev pub element_name : Name
 element_name =
     element_of (codes "x")
     (Term.Number 20 ∷ Term.Negative (Term.Number 1) ∷ Term.Truth true ∷ [])
+
+-- ---- a round of votes
+
+abbrev pub said1 : Name
+said1 = codes "said'1"
+
+abbrev pub said2 : Name
+said2 = codes "said'2"
+
+abbrev pub said3 : Name
+said3 = codes "said'3"
+
+abbrev pub round : Name
+round = codes "round"
+
+-- if(said'1, 1, 0) + if(said'2, 1, 0) + if(said'3, 1, 0)
+abbrev pub flat_votes : Term
+flat_votes =
+    Term.Binary Operator.Plus
+    (Term.Binary Operator.Plus (one_if (Term.Named said1)) (one_if (Term.Named said2)))
+    (one_if (Term.Named said3))
+
+-- round == 1: of the elements that all get false, the one of the round gets true
+abbrev pub is_round : Term → Term
+is_round k = Term.Binary Operator.Equal (Term.Named round) k
+
+-- if(b, true, false)
+abbrev pub flat_choice : Term → Term
+flat_choice b = choice b (Term.Truth true) (Term.Truth false)
+
+-- reset: that == 3 -> said'1 := round == 1, .., round := that
+abbrev pub flat_reset : flat.Step
+flat_reset =
+    step (codes "reset") (Term.Binary Operator.Equal flat_votes (Term.Number 3))
+    (becomes said1 (flat_choice (is_round (Term.Number 1)))
+    ∷ becomes said2 (flat_choice (is_round (Term.Number 2)))
+    ∷ becomes said3 (flat_choice (is_round (Term.Number 3)))
+    ∷ becomes round flat_votes ∷ [])
+
+abbrev pub reset_instance : Instance
+reset_instance = record { step = reset; own = [] }
+
+-- the votes of the protocol, and its step, in the flat model
+abbrev pub votes_put_in : Term
+votes_put_in = folded (data_of round_of_votes) false (unfolded_term round_of_votes [] votes_counted)
+
+abbrev pub reset_put_in : flat.Step
+reset_put_in = folded_step (data_of round_of_votes) (unfolded_step round_of_votes reset_instance)

@@ -1,6 +1,7 @@
--- A flat model as a protocol: no array, no definition, no quantified formula.
-use Rattle.std.specs.Prelude.{◌≡◌, true, ⊤, List, [], ◌∷◌, map}
-use Rattle.pb_text_meaning.specs.Syntax.{Variable, Terms}
+-- A flat model as a protocol: no array, no definition, no quantified formula, no counting.
+use Rattle.std.specs.Prelude.{◌≡◌, true, false, ⊤, List, [], ◌∷◌, map}
+use Rattle.pb_text_meaning.specs.Syntax.{Variable, Term, Terms}
+use Rattle.pb_text_counting.specs.Counting.{is_counting}
 use Rattle.pb_model_meaning.specs.Syntax as flat
 use Rattle.pb_model_meaning.specs.Steps as flat_steps
 use Rattle.pb_model_meaning.specs.Steps.{State}
@@ -15,7 +16,12 @@ abbrev pub plain_variable : Variable → StateVariable
 plain_variable x = record { name = x.name; indices = []; sort = x.sort }
 
 abbrev pub plain_assignment : flat.Assignment → Assignment
-plain_assignment a = record { variable = a.variable; index = Terms.NoTerms; term = a.term }
+plain_assignment a = record {
+  variables = [];
+  variable = a.variable;
+  index = Terms.NoTerms;
+  term = a.term;
+}
 
 abbrev pub plain_step : flat.Step → Step
 plain_step a = record {
@@ -66,11 +72,61 @@ AreAsMany (x ∷ xs) (Terms.Then t ts) = AreAsMany xs ts
 AreAsMany [] (Terms.Then t ts) = ⊥
 AreAsMany (x ∷ xs) Terms.NoTerms = ⊥
 
--- the names of variables are apart, no step assigns one twice, and each has an initial term
+-- no counting stands in a term: no application of the word that counting is one of
+abbrev mutual
+  pub CountsNothing : Term → Type 0
+  CountsNothing (Term.Truth b) = ⊤
+  CountsNothing (Term.Number n) = ⊤
+  CountsNothing (Term.Named x) = ⊤
+  CountsNothing (Term.Not x) = CountsNothing x
+  CountsNothing (Term.Negative x) = CountsNothing x
+  CountsNothing (Term.Binary o x y) = CountsNothing x × CountsNothing y
+  CountsNothing (Term.Apply f xs) = (is_counting f ≡ false) × CountNothing xs
+  CountsNothing (Term.Quantified q xs x) = CountsNothing x
+
+  pub CountNothing : Terms → Type 0
+  CountNothing Terms.NoTerms = ⊤
+  CountNothing (Terms.Then x xs) = CountsNothing x × CountNothing xs
+
+abbrev pub AssignmentsCountNothing : List flat.Assignment → Type 0
+AssignmentsCountNothing [] = ⊤
+AssignmentsCountNothing (a ∷ list) = CountsNothing a.term × AssignmentsCountNothing list
+
+abbrev pub StepsCountNothing : List flat.Step → Type 0
+StepsCountNothing [] = ⊤
+StepsCountNothing (a ∷ steps) =
+    (CountsNothing a.guard × AssignmentsCountNothing a.assignments) × StepsCountNothing steps
+
+abbrev pub FormulaCountsNothing : flat.Formula → Type 0
+FormulaCountsNothing (flat.Formula.Truth b) = ⊤
+FormulaCountsNothing (flat.Formula.Data x) = CountsNothing x
+FormulaCountsNothing (flat.Formula.Named X) = ⊤
+FormulaCountsNothing (flat.Formula.Not f) = FormulaCountsNothing f
+FormulaCountsNothing (flat.Formula.And f g) = FormulaCountsNothing f × FormulaCountsNothing g
+FormulaCountsNothing (flat.Formula.Or f g) = FormulaCountsNothing f × FormulaCountsNothing g
+FormulaCountsNothing (flat.Formula.Implies f g) = FormulaCountsNothing f × FormulaCountsNothing g
+FormulaCountsNothing (flat.Formula.Box A f) = FormulaCountsNothing f
+FormulaCountsNothing (flat.Formula.Diamond A f) = FormulaCountsNothing f
+FormulaCountsNothing (flat.Formula.Fixpoint sign X f) = FormulaCountsNothing f
+
+abbrev pub PropertiesCountNothing : List flat.Property → Type 0
+PropertiesCountNothing [] = ⊤
+PropertiesCountNothing (p ∷ list) = FormulaCountsNothing p.formula × PropertiesCountNothing list
+
+-- no step, no initial term and no property counts
+pub record ModelCountsNothing (m : flat.Model) : Type 0 where
+  pub steps : StepsCountNothing m.steps
+  pub initial : CountNothing m.initial
+  pub properties : PropertiesCountNothing m.properties
+
+-- the names of variables are apart, no step assigns one twice, each variable has an initial term,
+-- and no step and no initial term counts
 pub record IsPlain (m : flat.Model) : Type 0 where
   pub variables : AreDistinct (names_of m.variables)
   pub assignments : AssignOnce m.steps
   pub initial : AreAsMany m.variables m.initial
+  pub steps_count_nothing : StepsCountNothing m.steps
+  pub initial_counts_nothing : CountNothing m.initial
 
 -- what a flat model means is what it means as a protocol
 abbrev pub PlainModelsKeepTheirMeaning : Type 0
@@ -80,5 +136,5 @@ PlainModelsKeepTheirMeaning =
     ((s : State) → is_state (plain m) s ≡ flat_steps.is_state m s) ×
     ((A : flat.StepSet) (s : State) → flat_steps.is_state m s ≡ true →
     successors (plain m) [] (plain_set A) s ≡ flat_steps.successors m A s) ×
-    ((f : flat.Formula) →
+    ((f : flat.Formula) → FormulaCountsNothing f →
     satisfies (plain m) (plain_formula f) ≡ flat_satisfaction.satisfies m f)

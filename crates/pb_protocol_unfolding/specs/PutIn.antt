@@ -1,10 +1,12 @@
--- Terms put in for names: values of quantified variables, elements of arrays, definitions.
+-- Terms put in for names: values of quantified variables, elements of arrays, definitions. Counting
+-- is written out as a sum.
 use Rattle.std.specs.Prelude.{ℕ, Bool, true, false, ◌&&◌, if◌then◌else◌, List, [], ◌∷◌}
 use Rattle.std.specs.Prelude.{flat_map, Option, Some, None, codes}
 use Rattle.pb_text_tree.specs.declared.operator.Quantifier.{Quantifier}
 use Rattle.pb_text_tree.specs.declared.operator.Quantifier.TheVariants.{Forall, Exists}
 use Rattle.pb_text_meaning.specs.Syntax.{Name, same_name, Variable, Operator, Term, Terms, Spec}
 use Rattle.pb_text_meaning.specs.Sorts.{place_in}
+use Rattle.pb_text_counting.specs.Counting.{is_counting}
 use Rattle.pb_protocol_meaning.specs.Syntax.{StateVariable, Definition}
 use Rattle.pb_protocol_unfolding.specs.Written.{written_values, is_written, element}
 
@@ -48,6 +50,27 @@ copies spec [] f ρ = f ρ ∷ []
 copies spec (x ∷ xs) f ρ =
     flat_map (λ k. copies spec xs f ((x.name, k) ∷ ρ)) (written_values spec x.sort)
 
+-- if(b, x, y)
+abbrev pub choice : Term → Term → Term → Term
+choice b x y =
+    Term.Apply (codes "if") (Terms.Then b (Terms.Then x (Terms.Then y Terms.NoTerms)))
+
+-- ---- counting written out
+
+-- if(t, 1, 0)
+abbrev pub one_if : Term → Term
+one_if t = choice t (Term.Number 1) (Term.Number 0)
+
+-- x + if(t1, 1, 0) + if(t2, 1, 0) ..
+abbrev pub added : Term → List Term → Term
+added x [] = x
+added x (t ∷ ts) = added (Term.Binary Operator.Plus x (one_if t)) ts
+
+-- if(t1, 1, 0) + if(t2, 1, 0) .., and 0 where there is none
+abbrev pub counted : List Term → Term
+counted [] = Term.Number 0
+counted (t ∷ ts) = added (one_if t) ts
+
 -- ---- terms
 
 -- an enumerator stays; the name of nothing is 0, the value that it has in a text
@@ -82,7 +105,9 @@ abbrev mutual
   put_in spec forms ρ (Term.Binary o x y) =
       Term.Binary o (put_in spec forms ρ x) (put_in spec forms ρ y)
   put_in spec forms ρ (Term.Apply f xs) =
-      let ts = all_put_in spec forms ρ xs in applied_term (given_arguments forms f ts) f ts
+      if is_counting f then count_put_in spec forms ρ xs else
+      applied_term (given_arguments forms f (all_put_in spec forms ρ xs)) f
+      (all_put_in spec forms ρ xs)
   put_in spec forms ρ (Term.Quantified q xs x) =
       joined q (copies spec xs (λ σ. put_in spec forms σ x) ρ)
 
@@ -91,12 +116,17 @@ abbrev mutual
   all_put_in spec forms ρ (Terms.Then x xs) =
       Terms.Then (put_in spec forms ρ x) (all_put_in spec forms ρ xs)
 
--- ---- state variables
+  -- for how many tuples of values of the variables the body of a quantifier is true
+  pub count_put_in : Spec → Forms → TermScope → Terms → Term
+  count_put_in spec forms ρ Terms.NoTerms = Term.Number 0
+  count_put_in spec forms ρ (Terms.Then x xs) = count_of_put_in spec forms ρ x
 
--- if(b, x, y)
-abbrev pub choice : Term → Term → Term → Term
-choice b x y =
-    Term.Apply (codes "if") (Terms.Then b (Terms.Then x (Terms.Then y Terms.NoTerms)))
+  pub count_of_put_in : Spec → Forms → TermScope → Term → Term
+  count_of_put_in spec forms ρ (Term.Quantified q xs x) =
+      counted (copies spec xs (λ σ. put_in spec forms σ x) ρ)
+  count_of_put_in spec forms ρ _ = Term.Number 0
+
+-- ---- state variables
 
 -- if(t == k || true, x, 0), which is x: of one value left t is compared too, so that it is written
 abbrev pub last_choice : Term → Term → Term → Term

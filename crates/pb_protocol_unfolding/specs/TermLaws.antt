@@ -9,9 +9,9 @@ use Rattle.pb_model_meaning.specs.Steps.{State}
 use Rattle.pb_protocol_folding.specs.Names.{AreDistinct, enumerators_in, HidesNoEnumerator}
 use Rattle.pb_protocol_meaning.specs.Syntax as protocol
 use Rattle.pb_protocol_meaning.specs.Syntax.{Definition, Protocol}
-use Rattle.pb_protocol_meaning.specs.Meaning.{Functions, meaning, meanings}
+use Rattle.pb_protocol_meaning.specs.Meaning.{Functions, meaning}
 use Rattle.pb_protocol_meaning.specs.Meaning as function
-use Rattle.pb_protocol_meaning.specs.Steps.{data_of, value_after, variables_at}
+use Rattle.pb_protocol_meaning.specs.Steps.{data_of, updates, value_after, variables_at}
 use Rattle.pb_protocol_unfolding.specs.Written.{written_values}
 use Rattle.pb_protocol_unfolding.specs.PutIn.{TermScope, Forms, put_in, reads}
 use Rattle.pb_protocol_unfolding.specs.PutIn as form
@@ -55,7 +55,7 @@ pub record Means (spec : Spec) (a : Assignment) (forms : Forms) (functions : Fun
 -- ---- laws
 
 -- A term has the value that it has where names stand for the values of what is put in for them.
--- Its quantifiers are written out.
+-- Its quantifiers are written out, and so is counting.
 abbrev pub TermsPutInHaveTheValue : Type 0
 TermsPutInHaveTheValue =
     (spec : Spec) (a : Assignment) (forms : Forms) (functions : Functions) →
@@ -82,14 +82,13 @@ ElementsAreRead =
     Means (data_of m) (elements_at m s) (reads (data_of m) m.variables)
     (variables_at (data_of m) m.variables s)
 
--- After all assignments an element has the value of the last term that is assigned to it: at the
--- values of an index. Else it has the value before.
+-- After all assignments, each for all values of its variables, an element has the value of the last
+-- term that is assigned to it: at the values of an index. Else it has the value before.
 abbrev pub ElementsAreAssigned : Type 0
 ElementsAreAssigned =
     (spec : Spec) (a : Assignment) (forms : Forms) (functions : Functions) →
     Means spec a forms functions →
     (ρ : TermScope) (assignments : List protocol.Assignment) (e : Element) (before : Term) →
     value spec a (term_after spec forms ρ assignments e before)
-    ≡ value_after (meaning spec functions (valued spec a ρ))
-    (meanings spec functions (valued spec a ρ)) assignments e.array (map (value spec a) e.index)
-    (value spec a before)
+    ≡ value_after (updates spec functions (valued spec a ρ) assignments) e.array
+    (map (value spec a) e.index) (value spec a before)

@@ -67,15 +67,33 @@ is_index (Terms.Then t ts) (k ∷ ks) =
 is_index Terms.NoTerms (k ∷ ks) = Term.Truth false
 is_index (Terms.Then t ts) [] = Term.Truth false
 
--- what an element is after all assignments; of several to one element the last counts
+-- an assignment, with what names stand for in it
+pub record Copy : Type 0 where
+  pub scope : TermScope
+  pub assignment : protocol.Assignment
+
+-- one for each tuple of values of its variables, in order
+abbrev pub copies_of : Spec → TermScope → protocol.Assignment → List Copy
+copies_of spec ρ a = copies spec a.variables (λ σ. record { scope = σ; assignment = a }) ρ
+
+abbrev pub all_copies : Spec → TermScope → List protocol.Assignment → List Copy
+all_copies spec ρ assignments = flat_map (copies_of spec ρ) assignments
+
+-- what an element is after all of these; of several to one element the last counts
+abbrev pub after_copies : Spec → Forms → List Copy → Element → Term → Term
+after_copies spec forms [] e before = before
+after_copies spec forms (c ∷ others) e before =
+    after_copies spec forms others e
+    (if same_name c.assignment.variable e.array then
+    choice (is_index (all_put_in spec forms c.scope c.assignment.index) e.index)
+    (put_in spec forms c.scope c.assignment.term) before
+    else before)
+
+-- and after all assignments
 abbrev pub term_after :
     Spec → Forms → TermScope → List protocol.Assignment → Element → Term → Term
-term_after spec forms ρ [] e before = before
-term_after spec forms ρ (a ∷ others) e before =
-    term_after spec forms ρ others e
-    (if same_name a.variable e.array then
-    choice (is_index (all_put_in spec forms ρ a.index) e.index) (put_in spec forms ρ a.term) before
-    else before)
+term_after spec forms ρ assignments e before =
+    after_copies spec forms (all_copies spec ρ assignments) e before
 
 -- of an element that is not assigned this is the element itself
 abbrev pub unfolded_assignment :
@@ -172,13 +190,17 @@ unfolded_formula m ρ (Formula.Quantified q xs f) =
 
 -- ---- models
 
+-- definitions alone, at the start
+abbrev pub forms_at_start : Protocol → Forms
+forms_at_start m = with_definitions (data_of m) no_forms m.definitions
+
 -- the term of a variable for each of its elements, the index put in
-abbrev pub unfolded_initial : Spec → List StateVariable → Terms → List Term
-unfolded_initial spec (y ∷ ys) (Terms.Then x xs) =
-    map (λ (ks : List Term). put_in spec no_forms (written y.indices ks) x)
-    (written_tuples spec y.indices) ++ unfolded_initial spec ys xs
-unfolded_initial spec [] xs = []
-unfolded_initial spec (y ∷ ys) Terms.NoTerms = []
+abbrev pub unfolded_initial : Spec → Forms → List StateVariable → Terms → List Term
+unfolded_initial spec forms (y ∷ ys) (Terms.Then x xs) =
+    map (λ (ks : List Term). put_in spec forms (written y.indices ks) x)
+    (written_tuples spec y.indices) ++ unfolded_initial spec forms ys xs
+unfolded_initial spec forms [] xs = []
+unfolded_initial spec forms (y ∷ ys) Terms.NoTerms = []
 
 abbrev pub unfolded_property : Protocol → Property → flat.Property
 unfolded_property m p = record { name = p.name; formula = unfolded_formula m [] p.formula }
@@ -189,6 +211,6 @@ unfolded m = record {
   ranges = m.ranges;
   variables = variables_of m;
   steps = map (unfolded_step m) (instances m);
-  initial = terms_of (unfolded_initial (data_of m) m.variables m.initial);
+  initial = terms_of (unfolded_initial (data_of m) (forms_at_start m) m.variables m.initial);
   properties = map (unfolded_property m) m.properties;
 }

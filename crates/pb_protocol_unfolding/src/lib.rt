@@ -26,7 +26,8 @@ pub fn written_values_are_kept()
 {}
 
 /// A term with terms put in for names has the value that it has where the names stand for their
-/// values, and a quantifier that is written out has the quantifier's value.
+/// values, a quantifier that is written out has the quantifier's value, and counting is the sum of
+/// what is counted.
 pub fn terms_put_in_have_the_value()
     ensures { TermsPutInHaveTheValue }
 {}
@@ -41,8 +42,8 @@ pub fn elements_are_read()
     ensures { ElementsAreRead }
 {}
 
-/// After all assignments an element has the value of the last term that is assigned to it, else the
-/// value before.
+/// After all assignments, each for all values of its variables, an element has the value of the
+/// last term that is assigned to it, else the value before.
 pub fn elements_are_assigned()
     ensures { ElementsAreAssigned }
 {}
@@ -93,11 +94,14 @@ pub fn plain_models_keep_their_meaning()
 
 /// Two caches of one line: a definition whose quantifier has its argument's name, two assignments
 /// to one element at once, an element by a variable, names, steps by value under a quantifier; and
-/// what the flat model satisfies.
+/// what the flat model satisfies. A round of votes: how they are counted, and a step that assigns
+/// all elements, and one of them again.
 pub fn worked_examples()
     ensures hides_nothing { HidesNothing protocol.caches }
     ensures definition { example.flat_step example.read_c1 ≡ example.flat_read }
     ensures at_once { example.flat_step example.grant_c1_c1 ≡ example.flat_grant }
+    ensures count { example.votes_put_in ≡ example.flat_votes }
+    ensures for_all { example.reset_put_in ≡ example.flat_reset }
     ensures by_variable { example.flat_term protocol.owners_line ≡ example.flat_owners_line }
     ensures names { example.element_name ≡ codes "x'20'm1'true" }
     ensures by_value { example.flat_formula protocol.reads_share ≡ example.flat_reads_share }

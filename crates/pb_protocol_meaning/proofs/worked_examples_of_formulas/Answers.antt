@@ -8,6 +8,7 @@ returns c = record {
   reads_share = refl;
   some_read = refl;
   one_writer = refl;
+  by_definition = refl;
   outside_is_true = refl;
   outside_is_no_more = refl;
 }

@@ -7,4 +7,7 @@ unfolding named_function
 returns c = record {
   at_once = refl;
   apart = refl;
+  for_all = refl;
+  not_all = refl;
+  at_start = refl;
 }

@@ -7,5 +7,6 @@ unfolding named_function
 returns c = record {
   by_variable = refl;
   definition = refl;
+  count = refl;
   no_name = refl;
 }

@@ -10,10 +10,13 @@ returns c = record {
     elements = search rules;
     enumerators = search rules;
     values = search rules;
+    definitions = search rules;
     steps = search rules;
   };
   definition = refl;
   at_once = refl;
+  count = refl;
+  for_all = refl;
   by_variable = refl;
   names = refl;
   by_value = refl;
