@@ -1,5 +1,5 @@
 -- What is made of the negation of a property, alone in the protocol, or how that is refused.
-use Rattle.std.proofs.Common.{◌≡◌, ◌∙◌, ℕ, List, Some, refl, sym, subst, inl, inr}
+use Rattle.std.proofs.Common.{◌≡◌, ◌∙◌, ◌⊎◌, ℕ, List, Some, refl, sym, subst, inl, inr}
 use Rattle.std.specs.List.{slice_get}
 use Rattle.pb_text_tree.specs.declared.place.Place.{Place}
 use Rattle.pb_model_tree.specs.Form.{ModelForm, PropertyForm, model_form}
@@ -10,9 +10,10 @@ use Rattle.pb_model_faults.specs.declared.ModelFault.{ModelFault}
 use Rattle.pb_model_faults.specs.declared.ModelFault.TheVariants as model_fault
 use Rattle.pb_model_properties.specs.declared.solved.SolvedModel.{SolvedModel}
 use Rattle.pb_model_properties.specs.Negations.{IsNegationOf, IsRefusedNegation, with_negation}
-use Rattle.pb_model_properties.specs.Refusals.{IsIllTypedText, IsRefusedProtocol, IsRefusedText}
+use Rattle.pb_model_properties.specs.Refusals.{IsIllTypedText, IsOfUnsettled, IsRefusedProtocol, IsRefusedText}
 use Rattle.pb_model_properties.specs.Said.{protocol_satisfies, tree_satisfies, IsModelFor, IsTheReading}
 use Rattle.pb_model_properties.specs.Words.{IsToldModel}
+use Rattle.pb_model_properties.proofs.Negations.{same_reading}
 use Rattle.pb_command_faults.specs.declared.property_fault.PropertyExcess.{PropertyExcess}
 use Rattle.pb_command_faults.specs.declared.property_fault.PropertyExcess.TheVariants.{Text, Code, Game, NegationText, NegationTyping}
 use Rattle.pb_command_faults.specs.declared.solve_fault.SolveFault.{SolveFault}
@@ -22,10 +23,6 @@ use Rattle.pb_command_models.specs.declared.property_module.PropertyModule.TheVa
 use Rattle.pb_command_models.specs.Denials.{IsExcessOf, IsRefusedNegationAt, IsFaultOfText}
 use Rattle.pb_command_models.specs.Models.{IsTooLargeNegation, IsTooLargeProperty}
 use Rattle.pb_command_models.specs.Outcomes.{IsExcessBy, IsNegationAt, IsNegationModule, IsPropertyModule, IsRule, IsUnexplainedText}
-
--- what the bytes say is one protocol
-pub same_reading : (bytes : List ℕ) (p q : ProtocolForm) → IsTheReading bytes p → IsTheReading bytes q → q ≡ p
-same_reading bytes p q of_p of_q = of_p.only _ _ q of_q.reading
 
 -- what is too large of the text of a negation is of the negation
 pub large_negation : (protocol : ProtocolForm) (p : protocol_form.PropertyForm) (model : ModelForm) → IsModelFor (with_negation protocol p) model
@@ -49,18 +46,16 @@ module _ (bytes : List ℕ) (place : ℕ) (protocol : ProtocolForm) (read : IsTh
 
   -- ---- refused before it is a text
 
-  refused_by : (n : ProtocolForm) → n ≡ with_negation protocol p → (fault : ModelFault) (excess : PropertyExcess) → IsRefusedProtocol n fault → IsExcessBy fault excess
+  refused_by : (fault : ModelFault) (excess : PropertyExcess) → IsRefusedProtocol (with_negation protocol p) fault ⊎ IsOfUnsettled protocol fault → IsExcessBy fault excess
       → IsTooLargeNegation protocol p excess
-  refused_by n same (model_fault.Text fault) excess h is =
-      subst (IsTooLargeNegation protocol p) (sym is) (fault, refl, subst (λ (m : ProtocolForm). IsRefusedProtocol m (model_fault.Text fault)) same h)
-  refused_by n same (model_fault.Typing fault) excess h is =
-      subst (IsTooLargeNegation protocol p) (sym is) (fault, refl, inl (subst (λ (m : ProtocolForm). IsRefusedProtocol m (model_fault.Typing fault)) same h))
-  refused_by n same model_fault.NoProperty excess h is = absurd is
+  refused_by (model_fault.Text fault) excess h is = subst (IsTooLargeNegation protocol p) (sym is) (fault, refl, h)
+  refused_by (model_fault.Typing fault) excess (inl h) is = subst (IsTooLargeNegation protocol p) (sym is) (fault, refl, inl h)
+  refused_by (model_fault.Typing fault) excess (inr h) is = subst (IsTooLargeNegation protocol p) (sym is) (fault, refl, inr (inr h))
+  refused_by model_fault.NoProperty excess h is = absurd is
 
   refused_here : (fault : ModelFault) (excess : PropertyExcess) → IsRefusedNegation bytes place fault → IsExcessBy fault excess → IsTooLargeNegation protocol p excess
   refused_here fault excess h is =
-      refused_by (with_negation h.protocol h.property)
-      (of_same (λ x y. with_negation h.protocol h.property ≡ with_negation x y) h.protocol h.read h.property h.stands refl) fault excess h.refused is
+      refused_by fault excess (of_same (λ x y. IsRefusedProtocol (with_negation x y) fault ⊎ IsOfUnsettled x fault) h.protocol h.read h.property h.stands h.refused) is
 
   -- ---- its text
 
@@ -81,13 +76,13 @@ module _ (bytes : List ℕ) (place : ℕ) (protocol : ProtocolForm) (read : IsTh
         subst (IsTooLargeNegation protocol p) (sym is) (
           fault,
           refl,
-          inr (record {
+          inr (inl (record {
             model = model;
             is_for = told_here.is_for;
             negation = of.negation;
             first = of.first;
             holds = subst (λ (steps : List Place). IsIllTypedText model steps of.negation fault) told_here.places h;
-          }),
+          })),
         )
 
     module_here : (compiled : PropertyModule) → IsPropertyModule model of.negation compiled → IsNegationModule protocol p compiled
@@ -131,11 +126,17 @@ module _ (bytes : List ℕ) (place : ℕ) (solved : SolvedModel) (of : IsNegatio
 
 -- ---- faults
 
+-- that a property isn't there refuses no protocol
+never_refused : (protocol : ProtocolForm) (p : protocol_form.PropertyForm)
+    → IsRefusedProtocol (with_negation protocol p) model_fault.NoProperty ⊎ IsOfUnsettled protocol model_fault.NoProperty → IsRule model_fault.NoProperty
+never_refused protocol p (inl h) = absurd h
+never_refused protocol p (inr h) = absurd h
+
 -- a negation is refused by a rule
 pub refused_rule : (bytes : List ℕ) (place : ℕ) (fault : ModelFault) → IsRefusedNegation bytes place fault → IsRule fault
 refused_rule bytes place (model_fault.Text fault) h = tt
 refused_rule bytes place (model_fault.Typing fault) h = tt
-refused_rule bytes place model_fault.NoProperty h = absurd h.refused
+refused_rule bytes place model_fault.NoProperty h = never_refused h.protocol h.property h.refused
 
 pub text_rule : (solved : SolvedModel) (q : PropertyForm) (fault : ModelFault) → IsRefusedText solved q fault → IsRule fault
 text_rule solved q (model_fault.Text fault) h = tt

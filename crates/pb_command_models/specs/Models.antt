@@ -34,7 +34,8 @@ use Rattle.pb_model_properties.specs.Made.{step_name_places}
 use Rattle.pb_model_properties.specs.Negations.{with_negation}
 use Rattle.pb_model_properties.specs.Reached.{reached_property}
 use Rattle.pb_model_properties.specs.Refusals.{is_limit_rule}
-use Rattle.pb_model_properties.specs.Refusals.{IsIllTypedText, IsRefusedModelText, IsRefusedProtocol}
+use Rattle.pb_model_properties.specs.Refusals.{IsIllTypedText, IsOfUnsettled}
+use Rattle.pb_model_properties.specs.Refusals.{IsRefusedModelText, IsRefusedProtocol}
 use Rattle.pb_model_properties.specs.Refusals.{IsRefusedModelType, LacksProperty, LacksTranslation}
 use Rattle.pb_protocol_tree.specs.Form as protocol_form
 use Rattle.pb_protocol_tree.specs.Form.{ProtocolForm}
@@ -133,16 +134,18 @@ IsIllTypedNegation protocol p fault =
     (λ model q. IsIllTypedText model (step_name_places (with_negation protocol p)) q fault)
 
 -- The negation of the property p is refused, alone in the protocol: it can't be written out, or it
--- breaks a rule of typing, or something of its text is too large.
+-- breaks a rule of typing, or something of its text is too large; or a constant or a bound of
+-- the text isn't unfolded.
 abbrev pub IsTooLargeNegation :
     ProtocolForm → protocol_form.PropertyForm → PropertyExcess → Type 0
 IsTooLargeNegation protocol p (NegationText rule) =
     (fault : TextFault) × (fault.rule ≡ rule)
-    × IsRefusedProtocol (with_negation protocol p) (model_fault.Text fault)
+    × (IsRefusedProtocol (with_negation protocol p) (model_fault.Text fault)
+    ⊎ IsOfUnsettled protocol (model_fault.Text fault))
 IsTooLargeNegation protocol p (NegationTyping rule) =
     (fault : TypingFault) × (fault.rule ≡ rule)
     × (IsRefusedProtocol (with_negation protocol p) (model_fault.Typing fault)
-    ⊎ IsIllTypedNegation protocol p fault)
+    ⊎ IsIllTypedNegation protocol p fault ⊎ IsOfUnsettled protocol (model_fault.Typing fault))
 IsTooLargeNegation protocol p excess =
     HasNegation protocol p (λ model q. IsTooLargeProperty model q excess)
 

@@ -1,7 +1,8 @@
 -- The model that is solved in the place of a protocol with the negation of one property alone.
-use Rattle.std.proofs.Common.{◌≡◌, ◌∙◌, ℕ, zero, suc, ◌<◌, length, not, ◌&&◌, List, [], ◌∷◌, ◌++◌, Some, map, refl, sym, ap, ap₂, subst, arith}
+use Rattle.std.proofs.Common.{◌≡◌, ◌∙◌, ℕ, zero, suc, ◌<◌, length, not, ◌&&◌, List, [], ◌∷◌, ◌++◌, Some, map, refl, sym, ap, ap₂, subst, arith, inl, inr}
 use Rattle.std.specs.Prelude.{Contains, Result, Ok, Err, IfOk, option_map}
 use Rattle.std.specs.List.{list_all, slice_get}
+use Rattle.std.proofs.lemmas.List.{length-map}
 use Rattle.std.proofs.lemmas.Option.{slice_get-map, slice_get_within, get_or_from_slice_get}
 use Rattle.pb_base.specs.OrMemory.{IfRefused}
 use Rattle.pb_base.specs.declared.or_memory.OrMemory.{OrMemory}
@@ -15,19 +16,26 @@ use Rattle.pb_model_tree.specs.Form.{ModelForm, model_form}
 use Rattle.pb_model_runs.specs.Exact.{are_apart, is_among}
 use Rattle.pb_model_spelling.specs.Protocols.{FormulaWritable, PropertyWritable, ProtocolWritable}
 use Rattle.pb_model_places.specs.Apart.{formula_places, protocol_stands_apart, step_places}
-use Rattle.pb_protocol_tree.specs.Form.{FormulaForm, PropertyForm, ProtocolForm}
+use Rattle.pb_protocol_tree.specs.Form.{FormulaForm, ModelTextForm, PropertyForm, ProtocolForm}
 use Rattle.pb_protocol_meaning.specs.Erase.{erase, erased_formula, erased_property}
+use Rattle.pb_protocol_constants.specs.declared.fault.ConstantsFault.{ConstantsFault}
+use Rattle.pb_protocol_constants.specs.declared.fault.ConstantsFault.TheVariants as constants
+use Rattle.pb_protocol_constants.specs.Faults.{IsFaultOfText}
+use Rattle.pb_protocol_constants.specs.Rules.{TextKeepsRules}
+use Rattle.pb_protocol_constants.specs.Settled.{settled}
 use Rattle.pb_protocol_negation.specs.Negated.{negated, negated_property}
 use Rattle.pb_protocol_negation.specs.Laws.{SatisfactionIsKept}
 use Rattle.pb_protocol_laws.specs.Solved.{AreSameProperties, IsSameProperty}
 use Rattle.pb_model_faults.specs.declared.ModelFault.{ModelFault}
 use Rattle.pb_model_faults.specs.declared.ModelFault.TheVariants as model_fault
 use Rattle.pb_model_properties.specs.declared.solved.SolvedModel.{SolvedModel}
+use Rattle.pb_model_properties.specs.Faults.{constants_fault}
 use Rattle.pb_model_properties.specs.Negations.{HasPropertyAt, IsNegationOf, IsRefusedNegation, with_negation}
-use Rattle.pb_model_properties.specs.Refusals.{IsRefusedProtocol, IsUnread}
+use Rattle.pb_model_properties.specs.Refusals.{HasUnsettledText, IsOfUnsettled, IsRefusedProtocol, IsUnread, IsUnsettled}
 use Rattle.pb_model_properties.specs.Said.{protocol_satisfies, tree_satisfies, IsModelFor, IsTheReading}
 use Rattle.pb_model_properties.specs.Solvable.{CanBeSolved}
 use Rattle.pb_model_properties.specs.Words.{IsToldModel}
+use Rattle.pb_model_properties.proofs.Settling.{never_typing}
 
 -- ---- where its properties go on
 
@@ -142,17 +150,44 @@ module _ (protocol : ProtocolForm) (place : ℕ) (p : PropertyForm) (stands : sl
     pub negation_refused : (r : Result SolvedModel (OrMemory ModelFault)) → IfRefused r (IsRefusedProtocol n) → IfRefused r (IsRefusedNegation bytes place)
     negation_refused (Ok x) h = tt
     negation_refused (Err (Refused f)) h =
-        record { protocol = protocol; read = read; property = p; stands = stands; refused = subst (λ (m : ProtocolForm). IsRefusedProtocol m f) is h }
+        record { protocol = protocol; read = read; property = p; stands = stands; refused = inl (subst (λ (m : ProtocolForm). IsRefusedProtocol m f) is h) }
     negation_refused (Err Memory) h = tt
 
--- what the bytes say is read
-pub was_read : (bytes : List ℕ) (place : ℕ) (fault : ModelFault) → HasPropertyAt bytes place → IsUnread bytes fault → ⊥
-was_read bytes place (model_fault.Text fault) has h = h.0 has.0 has.1.reading
-was_read bytes place (model_fault.Typing fault) has h = h
-was_read bytes place model_fault.NoProperty has h = h
+-- an element stands at each place within
+stands_at : {X : Type 0} (xs : List X) (k : ℕ) → k < length xs → (x : X) × (slice_get xs k ≡ Some x)
+stands_at [] k less = absurd (omega (arith, less))
+stands_at (x ∷ xs) zero less = (x, refl)
+stands_at (x ∷ xs) (suc k) less = stands_at xs k (omega (arith, less))
 
--- what is made of an element stands at each place within
+-- and so does what is made of it
 pub made_at : {X Y : Type 0} (form : X → Y) (items : List X) (k : ℕ) → k < length items → (y : Y) × (slice_get (map form items) k ≡ Some y)
-made_at form [] k less = absurd (omega (arith, less))
-made_at form (x ∷ items) zero less = (form x, refl)
-made_at form (x ∷ items) (suc k) less = made_at form items k (omega (arith, less))
+made_at form items k less = stands_at (map form items) k (omega (arith, less, length-map items form))
+
+-- ---- what was read
+
+-- what the bytes say is one protocol
+pub same_reading : (bytes : List ℕ) (p q : ProtocolForm) → IsTheReading bytes p → IsTheReading bytes q → q ≡ p
+same_reading bytes p q of_p of_q = of_q.is_settled ∙ ap settled (of_p.is_text.only _ _ of_q.text of_q.is_text.reading) ∙ sym of_p.is_settled
+
+-- a text that says a protocol is the one whose constants aren't settled, so it is for a term
+by_its_terms : (protocol : ProtocolForm) (fault : ModelFault) (text : ModelTextForm) → protocol ≡ settled text → TextKeepsRules text
+    → (below : ConstantsFault) → fault ≡ constants_fault below → IsFaultOfText text below → HasUnsettledText protocol fault
+by_its_terms protocol fault text is keeps (constants.Typing f) same breaks = absurd (never_typing text keeps f breaks)
+by_its_terms protocol fault text is keeps (constants.Term f) same breaks = (text, is, f, same, breaks)
+
+of_unsettled : (bytes : List ℕ) (protocol : ProtocolForm) (fault : ModelFault) → IsTheReading bytes protocol → IsUnsettled bytes fault → HasUnsettledText protocol fault
+of_unsettled bytes protocol fault read (text, is, below, same, breaks) =
+    let one : read.text ≡ text = is.only _ _ read.text read.is_text.reading in
+    by_its_terms protocol fault text (read.is_settled ∙ ap settled one) (subst TextKeepsRules one read.keeps) below same breaks
+
+unread_is_unsettled : (bytes : List ℕ) (protocol : ProtocolForm) (fault : ModelFault) → IsTheReading bytes protocol → IsUnread bytes fault → IsOfUnsettled protocol fault
+unread_is_unsettled bytes protocol (model_fault.Text fault) read (inl h) = absurd (h.0 read.text read.is_text.reading)
+unread_is_unsettled bytes protocol (model_fault.Text fault) read (inr h) = of_unsettled bytes protocol (model_fault.Text fault) read h
+unread_is_unsettled bytes protocol (model_fault.Typing fault) read h = of_unsettled bytes protocol (model_fault.Typing fault) read h
+unread_is_unsettled bytes protocol model_fault.NoProperty read h = h
+
+-- where the bytes say a protocol, only terms of constants and bounds may not be unfolded
+pub unread_negation : (bytes : List ℕ) (place : ℕ) (fault : ModelFault) → HasPropertyAt bytes place → IsUnread bytes fault → IsRefusedNegation bytes place fault
+unread_negation bytes place fault (protocol, read, within) h =
+    let here = stands_at protocol.properties place within in
+    record { protocol = protocol; read = read; property = here.0; stands = here.1; refused = inr (unread_is_unsettled bytes protocol fault read h) }

@@ -23,7 +23,7 @@ use Rattle.pb_model_typing.specs.Faults.{texts, new_faults, known_faults, assign
 use Rattle.pb_model_typing.specs.Texts.{every_step, IsTypedModel}
 use Rattle.pb_model_typing.specs.Laws.{NamesAreApart}
 use Rattle.pb_protocol_folding.specs.Names.{IsNot, AreDistinct, AssignOnce, names_of}
-use Rattle.pb_protocol_unfolding.specs.Plain.{AreAsMany, IsPlain}
+use Rattle.pb_protocol_unfolding.specs.Plain.{AreAsMany, IsPlain, ModelCountsNothing}
 
 -- ---- names of variables
 
@@ -142,9 +142,11 @@ steps_keep m e =
     let names = names_faults (variable_names m.variables) (step_names m.steps) (property_names m.properties) in
     (no_parts steps properties (no_parts names (steps ++ properties) e).1).0
 
-pub typed_is_plain : NamesAreApart → (m : ModelForm) → IsTypedModel m → IsPlain (erase m)
-typed_is_plain apart m typed = record {
+pub typed_is_plain : NamesAreApart → (m : ModelForm) → ModelCountsNothing (erase m) → IsTypedModel m → IsPlain (erase m)
+typed_is_plain apart m counts typed = record {
   variables = distinct (erase m).variables (apart m typed.rules).variables;
   assignments = assign_once (texts (variable_names m.variables)) m.steps (steps_keep m typed.rules);
   initial = initial_terms (erase m) (typed.steps);
+  steps_count_nothing = counts.steps;
+  initial_counts_nothing = counts.initial;
 }

@@ -2,10 +2,8 @@
 use Rattle.std.proofs.Common.{◌≡◌, ◌∙◌, List, [], ◌∷◌, ◌++◌, map, refl, ap}
 use Rattle.std.specs.Prelude.{All, Contains}
 use Rattle.std.proofs.lemmas.List.Elements.{All-cons, All-contains, All-nil, All-weaker, Contains-append_left, Contains-append_right, Contains-push}
-use Rattle.pb_text_meaning.specs.Syntax.{Variable}
 use Rattle.pb_text_printer.specs.Sayable.{Each}
 use Rattle.pb_model_tree.specs.Form as flat
-use Rattle.pb_model_meaning.specs.Syntax as model
 use Rattle.pb_model_meaning.specs.Erase as model_text
 use Rattle.pb_model_runs.specs.Exact as model_places
 use Rattle.pb_protocol_unfolding.specs.Plain as plain
@@ -13,52 +11,21 @@ use Rattle.pb_protocol_unfolder.specs.Plain as form
 use Rattle.pb_model_spelling.specs.Writable as flat_words
 use Rattle.pb_model_spelling.specs.Protocols as words
 use Rattle.pb_model_places.specs.Apart.{formula_places, step_places}
+use Rattle.pb_protocol_laws.proofs.PlainWords.{plain-formula-writable}
 
 -- ---- words
-
-variables_have : (xs : List Variable) → Each words.StateVariableWritable (map plain.plain_variable xs) → Each flat_words.VariableWritable xs
-variables_have [] h = tt
-variables_have (x ∷ xs) (h, hs) = ((h.0, h.2), variables_have xs hs)
-
-assignments_have : (xs : List model.Assignment) → Each words.AssignmentWritable (map plain.plain_assignment xs) → Each flat_words.AssignmentWritable xs
-assignments_have [] h = tt
-assignments_have (x ∷ xs) (h, hs) = (h.2, assignments_have xs hs)
-
-steps_have : (xs : List model.Step) → Each words.StepWritable (map plain.plain_step xs) → Each flat_words.StepWritable xs
-steps_have [] h = tt
-steps_have (x ∷ xs) (h, hs) = ((h.1, h.2, assignments_have x.assignments h.3), steps_have xs hs)
-
-formula_has : (f : model.Formula) → words.FormulaWritable (plain.plain_formula f) → flat_words.ModalWritable f
-formula_has (model.Formula.Truth b) h = h
-formula_has (model.Formula.Data x) h = h
-formula_has (model.Formula.Named X) h = h
-formula_has (model.Formula.Not f) h = formula_has f h
-formula_has (model.Formula.And f g) (h, k) = (formula_has f h, formula_has g k)
-formula_has (model.Formula.Or f g) (h, k) = (formula_has f h, formula_has g k)
-formula_has (model.Formula.Implies f g) (h, k) = (formula_has f h, formula_has g k)
-formula_has (model.Formula.Box A f) h = formula_has f h
-formula_has (model.Formula.Diamond A f) h = formula_has f h
-formula_has (model.Formula.Fixpoint sign X f) (x, h) = (x, formula_has f h)
-
-pub model_has : (m : model.Model) → words.ProtocolWritable (plain.plain m) → flat_words.ModelWritable m
-model_has m h = record {
-  sorts = h.sorts;
-  ranges = h.ranges;
-  variables = variables_have m.variables h.variables;
-  steps = steps_have m.steps h.steps;
-  initial = h.initial;
-}
 
 abbrev HasWords : flat.PropertyForm → Type 0
 HasWords p = flat_words.ModalWritable (model_text.erased_formula p.formula)
 
-properties_have : (ps : List flat.PropertyForm) → Each words.PropertyWritable (map plain.plain_property (map model_text.erased_property ps)) → All HasWords ps
-properties_have [] h = All-nil HasWords
-properties_have (p ∷ ps) (h, hs) = All-cons HasWords p ps (formula_has (model_text.erased_formula p.formula) h.1) (properties_have ps hs)
+properties_have : (ps : List flat.PropertyForm) → plain.PropertiesCountNothing (map model_text.erased_property ps)
+    → Each words.PropertyWritable (map plain.plain_property (map model_text.erased_property ps)) → All HasWords ps
+properties_have [] counts h = All-nil HasWords
+properties_have (p ∷ ps) (none, others) (h, hs) = All-cons HasWords p ps (plain-formula-writable (model_text.erased_formula p.formula) none h.1) (properties_have ps others hs)
 
-pub property_has : (m : flat.ModelForm) → words.ProtocolWritable (plain.plain (model_text.erase m)) → (p : flat.PropertyForm) → Contains m.properties p
-    → flat_words.ModalWritable (model_text.erased_formula p.formula)
-property_has m h p among = All-contains HasWords m.properties p (properties_have m.properties h.properties) among
+pub property_has : (m : flat.ModelForm) → plain.PropertiesCountNothing (model_text.erase m).properties → words.ProtocolWritable (plain.plain (model_text.erase m))
+    → (p : flat.PropertyForm) → Contains m.properties p → flat_words.ModalWritable (model_text.erased_formula p.formula)
+property_has m counts h p among = All-contains HasWords m.properties p (properties_have m.properties counts h.properties) among
 
 -- ---- places
 

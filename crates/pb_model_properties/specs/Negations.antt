@@ -1,5 +1,5 @@
 -- The model that is solved in the place of the protocol with the negation of one property alone.
-use Rattle.std.specs.Prelude.{◌≡◌, ◌<◌, ℕ, List, [], ◌∷◌, Some, length}
+use Rattle.std.specs.Prelude.{◌≡◌, ◌<◌, ◌⊎◌, ℕ, List, [], ◌∷◌, Some, length}
 use Rattle.std.specs.List.{slice_get}
 use Rattle.pb_model_tree.specs.Form as model_form
 use Rattle.pb_model_tree.specs.Form.{model_form}
@@ -7,7 +7,7 @@ use Rattle.pb_protocol_tree.specs.Form.{PropertyForm, ProtocolForm}
 use Rattle.pb_protocol_negation.specs.Negated.{negated, negated_property}
 use Rattle.pb_model_faults.specs.declared.ModelFault.{ModelFault}
 use Rattle.pb_model_properties.specs.declared.solved.SolvedModel.{SolvedModel}
-use Rattle.pb_model_properties.specs.Refusals.{IsRefusedProtocol}
+use Rattle.pb_model_properties.specs.Refusals.{IsOfUnsettled, IsRefusedProtocol}
 use Rattle.pb_model_properties.specs.Said.{protocol_satisfies, tree_satisfies, IsTheReading}
 use Rattle.pb_model_properties.specs.Words.{IsToldModel}
 
@@ -39,10 +39,12 @@ pub record IsNegationOf (bytes : List ℕ) (place : ℕ) (solved : SolvedModel) 
       tree_satisfies (model_form solved.typed.model) negation.formula
       ≡ protocol_satisfies protocol (negated property.formula)
 
--- the protocol with that negation alone is refused by the fault
+-- the protocol with that negation alone is refused by the fault; or it is that of a text in which a
+-- constant or a bound isn't unfolded, for this fault
 pub record IsRefusedNegation (bytes : List ℕ) (place : ℕ) (fault : ModelFault) : Type 0 where
   pub protocol : ProtocolForm
   pub read : IsTheReading bytes protocol
   pub property : PropertyForm
   pub stands : slice_get protocol.properties place ≡ Some property
-  pub refused : IsRefusedProtocol (with_negation protocol property) fault
+  pub refused :
+      IsRefusedProtocol (with_negation protocol property) fault ⊎ IsOfUnsettled protocol fault

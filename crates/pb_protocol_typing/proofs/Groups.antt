@@ -12,9 +12,8 @@ use Rattle.pb_typing_declarations.specs.declared.fault.TypingFault.{TypingFault}
 use Rattle.pb_typing_declarations.specs.Faults.{is_among}
 use Rattle.pb_protocol_typing.specs.Names.{name_texts}
 use Rattle.pb_protocol_typing.specs.Fault.{either_fault, first_fault}
-use Rattle.pb_protocol_typing.specs.Scopes.{Scope, sort_in}
+use Rattle.pb_protocol_typing.specs.Scopes.{sort_in}
 use Rattle.pb_protocol_typing.specs.Signatures.{variable_shapes}
-use Rattle.pb_protocol_typing.specs.Formulas.{hidden_fault, variables_fault}
 use Rattle.pb_protocol_typing.proofs.Rows.{or_else-assoc}
 
 either : (b c : Bool) (s : Name) (o : Option Name) → (if b then Some s else (if c then Some s else o)) ≡ (if b || c then Some s else o)
@@ -59,8 +58,10 @@ first-names fault sort (n ∷ ns) ys =
     ap (either_fault (fault (named n))) (first-names fault sort ns ys)
     ∙ sym (or_else-assoc (fault (named n)) (first_fault fault (map named ns)) (first_fault fault (variable_names ys)))
 
-pub group-fault : (s : Scope) (gs : List Variables) (k : ℕ) (g : Variables) → k < length gs → g ≡ get_or gs k g
-    → variables_fault s (variable_forms (drop k gs)) ≡ either_fault (first_fault (hidden_fault s) (map named g.names.items)) (variables_fault s (variable_forms (drop (k + 1) gs)))
-group-fault s gs k g below at =
-    ap (λ (hs : List Variables). variables_fault s (variable_forms hs)) (drop-at gs k g below at)
-    ∙ first-names (hidden_fault s) (named g.sort) g.names.items (variable_forms (drop (k + 1) gs))
+-- the first fault of the groups from the one at k on
+pub group-first : (fault : Named → Option TypingFault) (gs : List Variables) (k : ℕ) (g : Variables) → k < length gs → g ≡ get_or gs k g
+    → first_fault fault (variable_names (variable_forms (drop k gs)))
+    ≡ either_fault (first_fault fault (map named g.names.items)) (first_fault fault (variable_names (variable_forms (drop (k + 1) gs))))
+group-first fault gs k g below at =
+    ap (λ (hs : List Variables). first_fault fault (variable_names (variable_forms hs))) (drop-at gs k g below at)
+    ∙ first-names fault (named g.sort) g.names.items (variable_forms (drop (k + 1) gs))

@@ -1,9 +1,10 @@
 mod Rows
 mod Groups
-mod Seen
+pub mod Seen
 mod Tables
 mod FormulaRows
 mod ListRows
+mod AnyRows
 mod WrittenRows
 mod IndexRows
 mod Whole

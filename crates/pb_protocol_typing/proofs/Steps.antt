@@ -8,6 +8,7 @@ use Rattle.pb_text_meaning.specs.Syntax.{Spec}
 use Rattle.pb_protocol_tree.specs.Form.{StateVariableForm}
 use Rattle.pb_protocol_typing.specs.Fault.{either_fault}
 use Rattle.pb_protocol_typing.specs.Indices.{is_same_term, are_same, index_term}
+use Rattle.pb_protocol_typing.specs.Scopes.{Signatures}
 use Rattle.pb_protocol_typing.specs.Steps.{count, element_value_fault, elements_fault}
 
 both_false : (b c : Bool) → c ≡ false → false ≡ (b && c)
@@ -32,8 +33,8 @@ pub count_length : (es : List Argument) → count (argument_forms es) ≡ length
 count_length [] = refl
 count_length (e ∷ es) = let h : count (argument_forms es) ≡ length es = count_length es in omega (arith, h)
 
-pub element-next : (spec : Spec) (ys : List StateVariableForm) (es : List Argument) (k : ℕ) (e : Argument) → k < length es → e ≡ get_or es k e
-    → elements_fault spec k ys (argument_forms (drop k es))
-    ≡ either_fault (element_value_fault spec (slice_get ys k) e.place (term_form e.term))
-    (elements_fault spec (k + 1) ys (argument_forms (drop (k + 1) es)))
-element-next spec ys es k e below at = ap (λ (xs : List Argument). elements_fault spec k ys (argument_forms xs)) (drop-at es k e below at)
+pub element-next : (spec : Spec) (known : Signatures) (ys : List StateVariableForm) (es : List Argument) (k : ℕ) (e : Argument) → k < length es → e ≡ get_or es k e
+    → elements_fault spec known k ys (argument_forms (drop k es))
+    ≡ either_fault (element_value_fault spec known (slice_get ys k) e.place (term_form e.term))
+    (elements_fault spec known (k + 1) ys (argument_forms (drop (k + 1) es)))
+element-next spec known ys es k e below at = ap (λ (xs : List Argument). elements_fault spec known k ys (argument_forms xs)) (drop-at es k e below at)

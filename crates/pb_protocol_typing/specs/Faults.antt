@@ -66,7 +66,8 @@ names_faults text =
 
 -- ---- variables
 
--- T02: an index, a parameter or an own variable has no state variable's and no definition's name
+-- T02: an index, a parameter, an own variable or one of an assignment has no state variable's and
+-- no definition's name
 abbrev pub hiding_faults : Signatures → Named → List TypingFault
 hiding_faults known x = unless (not (is_reserved known x)) NameTwice x.place
 
@@ -101,7 +102,7 @@ property_fault steps s p = formula_fault steps s true p.formula
 abbrev pub parts_fault : Spec → Signatures → ProtocolForm → Option TypingFault
 parts_fault spec known text =
     either_fault (first_fault (step_fault (outermost spec known)) text.steps)
-    (either_fault (initial_fault spec text.variables text.initial)
+    (either_fault (initial_fault spec known text.variables text.initial)
     (first_fault (property_fault (steps_of spec text) (outermost spec known)) text.properties))
 
 -- beside those of sorts and ranges; of those of terms and formulas the first

@@ -1,4 +1,5 @@
--- What is applied to arguments in data: an array, a definition, or a function of texts.
+-- What is applied to arguments in data: an array, a definition, or a function of texts; and
+-- counting, which is a function of a Boolean that gives a whole number.
 use Rattle.std.specs.Prelude.{ℕ, Bool, true, not, ◌||◌, ◌&&◌, if◌then◌else◌, ◌==◌, List, []}
 use Rattle.std.specs.Prelude.{◌∷◌, length, Option, Some, None}
 use Rattle.pb_text_tree.specs.Form.{Named}
@@ -6,6 +7,7 @@ use Rattle.pb_text_meaning.specs.Syntax.{Name, Spec}
 use Rattle.pb_text_meaning.specs.declared.function.NamedFunction.{NamedFunction}
 use Rattle.pb_text_meaning.specs.declared.function.NamedFunction.TheVariants as named
 use Rattle.pb_text_meaning.specs.Functions.{named_function}
+use Rattle.pb_text_counting.specs.Counting.{is_counting}
 use Rattle.pb_typing_declarations.specs.Shapes.{Shape}
 use Rattle.pb_typing_declarations.specs.Enumerators.{Position, recogniser_of}
 use Rattle.pb_typing_declarations.specs.declared.fault.TypingFault.{TypingFault}
@@ -41,9 +43,15 @@ abbrev pub known_function : Option NamedFunction → Option Position → Option 
 known_function (Some f) r = Some (function_of f)
 known_function None r = recogniser r
 
--- a function that is there in each text, else a recogniser
+-- `count xs . p` takes what says whether p is true, and gives for how many values it is
+abbrev pub counting_function : Function
+counting_function = Uniform 1 Truth Whole
+
+-- counting, else a function that is there in each text, else a recogniser
 abbrev pub function_named : Spec → Name → Option Function
-function_named spec f = known_function (named_function f) (recogniser_of spec f)
+function_named spec f =
+    if is_counting f then Some counting_function
+    else known_function (named_function f) (recogniser_of spec f)
 
 abbrev pub arity : Function → ℕ
 arity Choice = 3

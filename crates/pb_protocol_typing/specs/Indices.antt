@@ -1,10 +1,13 @@
--- Which indices are plainly the same: terms that are written out, and an operator of two of them.
-use Rattle.std.specs.Prelude.{Bool, true, false, ◌&&◌}
+-- Which indices are plainly the same: terms that are written out, and an operator of two of them;
+-- and which variables stand in an index.
+use Rattle.std.specs.Prelude.{Bool, true, false, not, ◌&&◌, ◌||◌, is_some}
 use Rattle.pb_text_tree.specs.declared.operator.Arithmetic.{Arithmetic}
 use Rattle.pb_text_tree.specs.declared.operator.Arithmetic.TheVariants as operator
 use Rattle.pb_text_tree.specs.Form.{TermForm, ArgumentForms, no_arguments, argument}
+use Rattle.pb_text_meaning.specs.Syntax.{Name, same_name}
 use Rattle.pb_protocol_typing.specs.Written.{Written, Boolean, Number, Alone, Other, written}
 use Rattle.pb_protocol_typing.specs.Written.{is_same}
+use Rattle.pb_protocol_typing.specs.Scopes.{sort_in}
 
 -- `i`, or `i + 1`
 pub data IndexTerm : Type 0 where
@@ -44,3 +47,23 @@ are_same no_arguments no_arguments = true
 are_same (argument p x xs) (argument q y ys) =
     is_same_term (index_term x) (index_term y) && are_same xs ys
 are_same _ _ = false
+
+-- ---- variables in indices
+
+-- whether a name stands in a term, where no quantifier there has a variable of that name
+abbrev mutual
+  pub stands_in : Name → TermForm → Bool
+  stands_in x (TermForm.constant p b) = false
+  stands_in x (TermForm.number p n) = false
+  stands_in x (TermForm.name y) = same_name y.text x
+  stands_in x (TermForm.not p y) = stands_in x y
+  stands_in x (TermForm.negative p y) = stands_in x y
+  stands_in x (TermForm.connected c p y z) = stands_in x y || stands_in x z
+  stands_in x (TermForm.compared c p y z) = stands_in x y || stands_in x z
+  stands_in x (TermForm.computed o p y z) = stands_in x y || stands_in x z
+  stands_in x (TermForm.application f ys) = stands_among x ys
+  stands_in x (TermForm.quantified q p ys y) = not (is_some (sort_in ys x)) && stands_in x y
+
+  pub stands_among : Name → ArgumentForms → Bool
+  stands_among x no_arguments = false
+  stands_among x (argument p y ys) = stands_in x y || stands_among x ys

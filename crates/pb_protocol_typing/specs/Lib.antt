@@ -6,6 +6,7 @@ pub mod Terms
 pub mod Links
 pub mod Written
 pub mod Indices
+pub mod IndexLinks
 pub mod Sets
 pub mod Formulas
 pub mod FormulaLinks

@@ -1,8 +1,9 @@
 -- The lists of variables of a protocol.
-use Rattle.std.specs.Prelude.{List, [], ◌∷◌, ◌++◌, map, flat_map}
+use Rattle.std.specs.Prelude.{List, [], ◌∷◌, ◌++◌, map, flat_map, Option, Some, None}
 use Rattle.pb_text_tree.specs.Form.{VariableForm, TermForm, ArgumentForms, no_arguments, argument}
 use Rattle.pb_protocol_tree.specs.Form.{FormulaForm, StateVariableForm, DefinitionForm}
-use Rattle.pb_protocol_tree.specs.Form.{AssignmentForm, StepForm, PropertyForm, ProtocolForm}
+use Rattle.pb_protocol_tree.specs.Form.{CopiesForm, AssignmentForm, StepForm, PropertyForm}
+use Rattle.pb_protocol_tree.specs.Form.{ProtocolForm}
 
 -- those of its quantifiers
 abbrev mutual
@@ -32,8 +33,16 @@ formula_lists (FormulaForm.modal k p A f) = formula_lists f
 formula_lists (FormulaForm.fixpoint sign p x f) = formula_lists f
 formula_lists (FormulaForm.quantified q p xs f) = xs ∷ formula_lists f
 
+-- the variables of a `forall` before an assignment
+abbrev pub copies_lists : Option CopiesForm → List (List VariableForm)
+copies_lists None = []
+copies_lists (Some c) = c.variables ∷ []
+
+abbrev pub copied_lists : AssignmentForm → List (List VariableForm)
+copied_lists b = copies_lists b.copies
+
 abbrev pub assignment_lists : AssignmentForm → List (List VariableForm)
-assignment_lists b = arguments_lists b.index ++ term_lists b.value
+assignment_lists b = copied_lists b ++ (arguments_lists b.index ++ term_lists b.value)
 
 -- its indices, parameters and own variables, and quantifiers
 abbrev pub definition_lists : DefinitionForm → List (List VariableForm)
@@ -48,16 +57,17 @@ property_lists p = formula_lists p.formula
 abbrev pub index_lists : List StateVariableForm → List (List VariableForm)
 index_lists ys = map (λ (y : StateVariableForm). y.indices) ys
 
--- those that are declared: of indices, parameters and own variables
+-- those that are declared: of indices, parameters, own variables, and of assignments
 abbrev pub parameter_lists : List DefinitionForm → List (List VariableForm)
 parameter_lists ds = map (λ (d : DefinitionForm). d.parameters) ds
 
-abbrev pub own_lists : List StepForm → List (List VariableForm)
-own_lists steps = map (λ (a : StepForm). a.variables) steps
+abbrev pub own_lists : StepForm → List (List VariableForm)
+own_lists a = a.variables ∷ flat_map copied_lists a.assignments
 
 abbrev pub declared_lists : ProtocolForm → List (List VariableForm)
 declared_lists text =
-    index_lists text.variables ++ (parameter_lists text.definitions ++ own_lists text.steps)
+    index_lists text.variables
+    ++ (parameter_lists text.definitions ++ flat_map own_lists text.steps)
 
 -- and all of them
 abbrev pub protocol_lists : ProtocolForm → List (List VariableForm)

@@ -11,6 +11,7 @@ use Rattle.pb_typing_declarations.specs.declared.fault.TypingRule.{TypingRule}
 use Rattle.pb_typing_declarations.specs.declared.fault.TypingRule.TheVariants as rule
 use Rattle.pb_protocol_typing.specs.declared.kind.Kind.{Kind}
 use Rattle.pb_protocol_typing.specs.declared.kind.Kind.TheVariants as kind
+use Rattle.pb_protocol_typing.specs.declared.written_as.WrittenAs.{WrittenAs}
 use Rattle.pb_protocol_typing.specs.declared.scope.NameMeaning.{NameMeaning}
 use Rattle.pb_protocol_typing.specs.declared.scope.NameMeaning.TheVariants as meaning
 use Rattle.pb_protocol_typing.specs.Fault.{fault_at}
@@ -47,14 +48,24 @@ is_fixpoint (fixpoint y ∷ outer) x = same_name y x || is_fixpoint outer x
 -- ---- state variables and definitions
 
 -- the shapes of what a state variable's indices or a definition's parameters may be, and the kind
--- of its values
+-- of its values; a state variable reads the state, and a definition that names what does
 pub record Signature : Type 0 where
   pub is_state : Bool
+  pub reads_state : Bool
   pub parameters : List Shape
   pub kind : Kind
+  pub written : WrittenAs
 
 abbrev pub Signatures : Type 0
 Signatures = Name → Option Signature
+
+-- where there is no state, what reads it isn't there
+abbrev pub unless_state : Option Signature → Option Signature
+unless_state None = None
+unless_state (Some f) = if f.reads_state then None else Some f
+
+abbrev pub at_start : Signatures → Signatures
+at_start known = λ x. unless_state (known x)
 
 -- `_` stands for any value in sets of steps
 abbrev pub is_blank : Named → Bool

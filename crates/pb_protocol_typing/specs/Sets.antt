@@ -1,8 +1,9 @@
 -- The first fault of a set of steps: a step that isn't there (T01), a wrong number of values (T08),
 -- a value of another kind than the step's own variable (T04) or outside its sort (T11).
 --
--- A value is `_`, a quantifier's variable around, an enumerator, a number, or a truth value;
--- another term is of the wrong kind (T04), and a name that is none of these is unknown (T01).
+-- A value is `_`, a quantifier's variable around, an enumerator, a number, a truth value, or the
+-- name of a definition without state that stands for one of these three. Another term is of the
+-- wrong kind (T04), and a name that is none of these is unknown (T01).
 use Rattle.std.specs.Prelude.{ℕ, ◌+◌, ◌==◌, ◌&&◌, pos, neg_ℤ, int_le, Bool, true, false, List, []}
 use Rattle.std.specs.Prelude.{◌∷◌, length, Option, Some, None, is_some}
 use Rattle.pb_text_tree.specs.declared.place.Place.{Place}
@@ -17,7 +18,9 @@ use Rattle.pb_protocol_typing.specs.declared.kind.Kind.{Kind}
 use Rattle.pb_protocol_typing.specs.declared.kind.Kind.TheVariants as kind
 use Rattle.pb_protocol_typing.specs.Fault.{fault_at, fault_unless, either_fault}
 use Rattle.pb_protocol_typing.specs.Kinds.{shape_kind, agree}
-use Rattle.pb_protocol_typing.specs.Scopes.{Scope, sort_around}
+use Rattle.pb_protocol_typing.specs.declared.written_as.WrittenAs.{WrittenAs}
+use Rattle.pb_protocol_typing.specs.declared.written_as.WrittenAs.TheVariants as written_as
+use Rattle.pb_protocol_typing.specs.Scopes.{Scope, Signature, is_empty, sort_around, unless_state}
 use Rattle.pb_protocol_typing.specs.Terms.{shape_at}
 use Rattle.pb_protocol_typing.specs.Written.{Written, Boolean, Number, Alone, Other, written}
 
@@ -54,17 +57,40 @@ abbrev pub enumerator_fault : Option Position → Shape → Place → Named → 
 enumerator_fault None h p x = fault_at rule.UnknownName x.place
 enumerator_fault (Some e) h p x = kind_fault (kind.Struct e.sort) h p
 
+-- a number, which stands at the place
+abbrev pub number_fault : Shape → Place → Bool → ℕ → Option TypingFault
+number_fault h p b n =
+    either_fault (kind_fault kind.Whole h p) (fault_unless (is_within h b n) rule.OutsideCarrier p)
+
+-- what a definition stands for, which has this kind
+abbrev pub written_as_fault : Kind → Shape → Place → WrittenAs → Option TypingFault
+written_as_fault k h p (written_as.Number b n) = number_fault h p b n
+written_as_fault k h p written_as.OfKind = kind_fault k h p
+written_as_fault k h p written_as.Calculated = fault_at rule.WrongKind p
+
+-- T08: a definition stands without arguments
+abbrev pub definition_fault : Signature → Shape → Place → Named → Option TypingFault
+definition_fault f h p x =
+    either_fault (fault_unless (is_empty f.parameters) rule.WrongCount x.place)
+    (written_as_fault f.kind h p f.written)
+
+abbrev pub declared_fault :
+    Option Signature → Option Position → Shape → Place → Named → Option TypingFault
+declared_fault None e h p x = enumerator_fault e h p x
+declared_fault (Some f) e h p x = definition_fault f h p x
+
 abbrev pub alone_fault :
-    Scope → Option Name → Option Position → Shape → Place → Named → Option TypingFault
-alone_fault s None e h p x = enumerator_fault e h p x
-alone_fault s (Some sort) e h p x = variable_fault (sort_shape s.spec sort) h p
+    Scope → Option Name → Option Signature → Option Position → Shape → Place → Named →
+    Option TypingFault
+alone_fault s None f e h p x = declared_fault f e h p x
+alone_fault s (Some sort) f e h p x = variable_fault (sort_shape s.spec sort) h p
 
 abbrev pub written_fault : Scope → Shape → Place → Written → Option TypingFault
 written_fault s h p (Boolean b) = kind_fault kind.Truth h p
-written_fault s h p (Number b n) =
-    either_fault (kind_fault kind.Whole h p) (fault_unless (is_within h b n) rule.OutsideCarrier p)
+written_fault s h p (Number b n) = number_fault h p b n
 written_fault s h p (Alone x) =
-    alone_fault s (sort_around s.around x.text) (enumerator_of s.spec x.text) h p x
+    alone_fault s (sort_around s.around x.text) (unless_state (s.signatures x.text))
+    (enumerator_of s.spec x.text) h p x
 written_fault s h p Other = fault_at rule.WrongKind p
 
 abbrev pub step_value_fault : Scope → Shape → StepValueForm → Option TypingFault

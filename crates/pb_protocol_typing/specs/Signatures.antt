@@ -5,9 +5,12 @@ use Rattle.pb_text_meaning.specs.Syntax.{Name, same_name, Spec}
 use Rattle.pb_typing_declarations.specs.Shapes.{Shape, sort_shape}
 use Rattle.pb_protocol_tree.specs.Form.{StateVariableForm, DefinitionForm, StepForm}
 use Rattle.pb_protocol_typing.specs.Kinds.{sort_kind}
+use Rattle.pb_protocol_typing.specs.declared.written_as.WrittenAs.{WrittenAs}
+use Rattle.pb_protocol_typing.specs.declared.written_as.WrittenAs.TheVariants as written_as
 use Rattle.pb_protocol_typing.specs.Scopes.{variables, Signature, Signatures, Scope}
 use Rattle.pb_protocol_typing.specs.Sets.{StepShapes}
-use Rattle.pb_protocol_typing.specs.Terms.{kind}
+use Rattle.pb_protocol_typing.specs.Terms.{kind, reads_state}
+use Rattle.pb_protocol_typing.specs.Written.{Written, Boolean, Number, Alone, Other, written}
 
 -- one more name, which hides what had it
 abbrev pub with_entry : {V : Type 0} → Name → V → (Name → Option V) → Name → Option V
@@ -24,8 +27,10 @@ no_signatures = λ x. None
 abbrev pub state_signature : Spec → StateVariableForm → Signature
 state_signature spec y = record {
   is_state = true;
+  reads_state = true;
   parameters = variable_shapes spec y.indices;
   kind = sort_kind spec y.sort.text;
+  written = written_as.Calculated;
 }
 
 abbrev pub with_state : Spec → Signatures → List StateVariableForm → Signatures
@@ -40,11 +45,24 @@ abbrev pub definition_scope : Spec → Signatures → DefinitionForm → Scope
 definition_scope spec known d =
     record { spec = spec; signatures = known; around = variables d.parameters ∷ [] }
 
+-- how a name is written: as the definition's value, or as the enumerator that it is
+abbrev pub name_written : Option Signature → WrittenAs
+name_written None = written_as.OfKind
+name_written (Some f) = f.written
+
+abbrev pub value_written : Signatures → Written → WrittenAs
+value_written known (Boolean b) = written_as.OfKind
+value_written known (Number b n) = written_as.Number b n
+value_written known (Alone x) = name_written (known x.text)
+value_written known Other = written_as.Calculated
+
 abbrev pub definition_signature : Spec → Signatures → DefinitionForm → Signature
 definition_signature spec known d = record {
   is_state = false;
+  reads_state = reads_state (definition_scope spec known d) d.term;
   parameters = variable_shapes spec d.parameters;
   kind = kind (definition_scope spec known d) d.term;
+  written = value_written known (written d.term);
 }
 
 abbrev pub with_definition : Spec → Signatures → DefinitionForm → Signatures

@@ -1,11 +1,13 @@
 -- The kind of a data term of a protocol, and its first fault: a name that stands for nothing there
 -- (T01, T07), a wrong number of indices or arguments (T08), an operand or argument of another kind
 -- (T04).
-use Rattle.std.specs.Prelude.{ℕ, ◌+◌, List, [], ◌∷◌, length, Option, Some, None}
+use Rattle.std.specs.Prelude.{ℕ, ◌+◌, Bool, false, ◌||◌, List, [], ◌∷◌, length, Option, Some}
+use Rattle.std.specs.Prelude.{None}
 use Rattle.std.specs.List.{slice_get}
 use Rattle.pb_text_tree.specs.declared.place.Place.{Place}
 use Rattle.pb_text_tree.specs.Form.{TermForm, ArgumentForms, no_arguments, argument}
 use Rattle.pb_typing_declarations.specs.Shapes as shapes
+use Rattle.pb_text_meaning.specs.Syntax.{Name}
 use Rattle.pb_typing_declarations.specs.Shapes.{Shape}
 use Rattle.pb_typing_declarations.specs.declared.fault.TypingFault.{TypingFault}
 use Rattle.pb_typing_declarations.specs.declared.fault.TypingRule.TheVariants.{WrongKind}
@@ -14,8 +16,9 @@ use Rattle.pb_protocol_typing.specs.declared.kind.Kind.TheVariants.{Truth, Whole
 use Rattle.pb_protocol_typing.specs.Fault.{fault_unless, either_fault}
 use Rattle.pb_protocol_typing.specs.Kinds.{shape_kind, agree, are_whole, are_compared}
 use Rattle.pb_protocol_typing.specs.Kinds.{truth_fault, whole_fault}
-use Rattle.pb_protocol_typing.specs.Scopes.{Scope, variables, inside, name_meaning, meaning_kind}
-use Rattle.pb_protocol_typing.specs.Scopes.{meaning_fault}
+use Rattle.pb_protocol_typing.specs.Scopes.{Signature, Scope, variables, inside, sort_around}
+use Rattle.pb_protocol_typing.specs.Scopes.{name_meaning, meaning_kind, meaning_fault}
+use Rattle.pb_protocol_typing.specs.Functions.{Called, Declared, Function', Scalar, Nothing}
 use Rattle.pb_protocol_typing.specs.Functions.{called, called_kind, called_parameters}
 use Rattle.pb_protocol_typing.specs.Functions.{naming_fault, taking_fault}
 
@@ -89,3 +92,35 @@ condition_fault s p x = either_fault (term_fault s x) (truth_fault (kind s x) p)
 -- a term of a kind (T04 at the place)
 abbrev pub value_fault : Scope → Kind → Place → TermForm → Option TypingFault
 value_fault s k p x = either_fault (term_fault s x) (fault_unless (agree (kind s x) k) WrongKind p)
+
+-- ---- what reads the state
+
+-- a bare name: a variable around reads nothing
+abbrev pub name_reads : Option Name → Option Signature → Bool
+name_reads (Some sort) f = false
+name_reads None None = false
+name_reads None (Some f) = f.reads_state
+
+abbrev pub called_reads : Called → Bool
+called_reads (Declared f) = f.reads_state
+called_reads (Function' g) = false
+called_reads Scalar = false
+called_reads Nothing = false
+
+-- a term that names the state, or a definition that does
+abbrev mutual
+  pub reads_state : Scope → TermForm → Bool
+  reads_state s (TermForm.constant p b) = false
+  reads_state s (TermForm.number p n) = false
+  reads_state s (TermForm.name x) = name_reads (sort_around s.around x.text) (s.signatures x.text)
+  reads_state s (TermForm.not p x) = reads_state s x
+  reads_state s (TermForm.negative p x) = reads_state s x
+  reads_state s (TermForm.connected c p x y) = reads_state s x || reads_state s y
+  reads_state s (TermForm.compared c p x y) = reads_state s x || reads_state s y
+  reads_state s (TermForm.computed o p x y) = reads_state s x || reads_state s y
+  reads_state s (TermForm.application f xs) = called_reads (called s f.text) || some_reads s xs
+  reads_state s (TermForm.quantified q p xs x) = reads_state (inside (variables xs) s) x
+
+  pub some_reads : Scope → ArgumentForms → Bool
+  some_reads s no_arguments = false
+  some_reads s (argument p x xs) = reads_state s x || some_reads s xs

@@ -1,5 +1,5 @@
 -- What the program's scopes say.
-use Rattle.std.specs.Prelude.{List, [], ◌∷◌, map, string_bytes}
+use Rattle.std.specs.Prelude.{List, [], ◌∷◌, map, string_bytes, Option, Some, None}
 use denote.Ref.{Bor}
 use Rattle.std.specs.Option.{option_map}
 use Rattle.pb_text_tree.specs.declared.name.Name as declared_name
@@ -23,9 +23,11 @@ use Rattle.pb_protocol_typing.specs.declared.around.Around.TheVariants as around
 use Rattle.pb_protocol_typing.specs.declared.function.Called as program_called
 use Rattle.pb_protocol_typing.specs.declared.function.Called.TheVariants as called
 use Rattle.pb_protocol_typing.specs.declared.signature.Signature as program_signature
+use Rattle.pb_protocol_typing.specs.declared.scope.Naming as program_naming
+use Rattle.pb_protocol_typing.specs.declared.scope.Naming.TheVariants as naming
 use Rattle.pb_protocol_typing.specs.declared.scope.Scope as program_scope
 use Rattle.pb_protocol_typing.specs.Scopes.{Binder, variables, fixpoint, Signature, Signatures}
-use Rattle.pb_protocol_typing.specs.Scopes.{Scope}
+use Rattle.pb_protocol_typing.specs.Scopes.{Scope, at_start}
 use Rattle.pb_protocol_typing.specs.Functions.{Called, Declared, Function', Scalar, Nothing}
 use Rattle.pb_protocol_typing.specs.Sets.{StepShapes}
 use Rattle.pb_protocol_typing.specs.Written.{Written, Boolean, Number, Alone, Other}
@@ -40,17 +42,24 @@ binders (around.Fixpoint' name p outer) = fixpoint name.now ∷ binders outer
 abbrev pub signature_of : program_signature.Signature → Signature
 signature_of f = record {
   is_state = f.is_state;
+  reads_state = f.reads_state;
   parameters = map carrier_shape f.parameters.items;
   kind = f.kind;
+  written = f.written;
 }
 
 abbrev pub signatures_in : Table program_signature.Signature → Signatures
 signatures_in table x = option_map signature_of (entry_of table x)
 
+-- all that is declared, or what doesn't read the state
+abbrev pub named_by_scope : program_naming.Naming → Signatures → Signatures
+named_by_scope naming.All known = known
+named_by_scope naming.AtStart known = at_start known
+
 abbrev pub scope_of : program_scope.Scope → Scope
 scope_of s = record {
   spec = spec_of s.declarations.now;
-  signatures = signatures_in s.signatures.now;
+  signatures = named_by_scope s.naming (signatures_in s.signatures.now);
   around = binders s.around.now;
 }
 
@@ -59,6 +68,11 @@ called_of (called.Declared f) = Declared (signature_of f.now)
 called_of (called.Function g) = Function' g
 called_of called.Scalar = Scalar
 called_of called.Nothing = Nothing
+
+-- a state variable or definition, where there is one
+abbrev pub signature_behind : Option (Bor program_signature.Signature) → Option Signature
+signature_behind None = None
+signature_behind (Some f) = Some (signature_of f.now)
 
 -- the text of a name
 abbrev pub text_of : Bor declared_name.Name → Name

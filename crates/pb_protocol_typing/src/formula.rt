@@ -15,7 +15,7 @@ ghost use Rattle.pb_protocol_typing.specs.Scopes.{variables};
 ghost use Rattle.pb_protocol_typing.specs.View.{scope_of, shapes_in};
 
 use crate::around::{Around, is_fixpoint, sort_around};
-use crate::names::is_reserved;
+use crate::names::is_blank;
 use crate::scope::Scope;
 use crate::signature::Steps;
 use crate::step_set::set_fault;
@@ -53,7 +53,7 @@ fn may_stand(operand: &Formula, is_even: bool) -> bool
 fn fixpoint_fault(scope: &Scope<'_, '_>, name: &Name) -> Option<TypingFault>
     ensures { result ≡ fixpoint_fault (scope_of scope.now) (named name.now) }
 {
-    let is_declared = scope.signatures.contains_key(name.text.as_str());
+    let is_declared = scope.signature(name.text.as_str()).is_some();
     let is_hidden = is_declared || sort_around(scope.around, &name.text).is_some();
     fault_unless(!is_hidden, TypingRule::NameTwice, name.place)
 }
@@ -62,7 +62,8 @@ fn is_hidden(scope: &Scope<'_, '_>, name: &Name) -> bool
     ensures { result ≡ (is_reserved (scope_of scope.now).signatures (named name.now)
         || is_fixpoint (scope_of scope.now).around (named name.now).text) }
 {
-    is_reserved(scope.signatures, name) || is_fixpoint(scope.around, &name.text)
+    let is_declared = scope.signature(name.text.as_str()).is_some();
+    (is_declared || is_blank(name)) || is_fixpoint(scope.around, &name.text)
 }
 
 /// None of these names is that of a state variable, a definition or a fixpoint around.
@@ -182,6 +183,7 @@ fn fixpoint_body_fault<'a>(
     let inner = Scope {
         declarations: scope.declarations,
         signatures: scope.signatures,
+        naming: scope.naming,
         around: &around,
     };
     formula_fault(steps, &inner, Polarity::Positive, body)
@@ -204,6 +206,7 @@ fn quantified_body_fault<'a>(
     let inner = Scope {
         declarations: scope.declarations,
         signatures: scope.signatures,
+        naming: scope.naming,
         around: &around,
     };
     formula_fault(steps, &inner, polarity, body)

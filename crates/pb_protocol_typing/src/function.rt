@@ -9,6 +9,7 @@ ghost use Rattle.pb_protocol_typing.specs.View.{called_of, scope_of, signature_o
 use crate::kind::Kind;
 use crate::scope::Scope;
 use crate::signature::Signature;
+use pb_text_counting::is_counting;
 use pb_text_meaning::NamedFunction;
 use pb_typing_declarations::Declarations;
 
@@ -44,10 +45,13 @@ fn function_of(function: NamedFunction) -> Function
     }
 }
 
-/// A function that is there in each text, else a recogniser.
+/// Counting, else a function that is there in each text, else a recogniser.
 fn function_named(declarations: &Declarations<'_>, name: &str) -> Option<Function>
     ensures { result ≡ function_named (spec_of declarations.now) name.now }
 {
+    if is_counting(name) {
+        return Some(Function::Uniform(1, Kind::Truth, Kind::Whole));
+    }
     if let Some(function) = NamedFunction::named(name) {
         return Some(function_of(function));
     }
@@ -80,7 +84,7 @@ pub(crate) fn find_called<'a>(scope: &Scope<'a, '_>, name: &str) -> Called<'a>
     ensures { called_of result ≡ called (scope_of scope.now) name.now }
 {
     let function = function_named(scope.declarations, name);
-    match scope.signatures.get(name) {
+    match scope.signature(name) {
         Some(signature) => {
             if takes_arguments(signature) {
                 return Called::Declared(signature);

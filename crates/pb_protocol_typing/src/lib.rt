@@ -7,6 +7,7 @@
 #![tactic(auto)]
 
 mod around;
+mod copies;
 mod formula;
 mod function;
 mod index;
@@ -14,6 +15,7 @@ mod kind;
 mod lists;
 mod names;
 mod protocol;
+mod reading;
 mod scope;
 mod signature;
 mod step;
@@ -21,7 +23,9 @@ mod step_set;
 mod term;
 mod term_kind;
 mod written;
+mod written_as;
 
-pub use names::check_apart;
+pub use lists::all_lists;
+pub use names::{check_apart, declared_names, push_variable_names};
 pub use protocol::check_protocol;
 pub use step::MAX_ASSIGNMENTS;

@@ -1,5 +1,6 @@
-//! The lists of variables of a protocol: its indices, parameters, own variables, and those of its
-//! quantifiers. They are gathered first, so that a rule of lists is looked at in one place.
+//! The lists of variables of a protocol: its indices, parameters, own variables, those of
+//! assignments, and those of its quantifiers. They are gathered first, so that a rule of lists is
+//! looked at in one place.
 
 ghost use Rattle.std.specs.Prelude.{◌≡◌, ◌++◌, [], flat_map, map, IfOk, MatchResult, OnOk};
 ghost use Rattle.pb_text_tree.specs.Form.{argument_forms, term_form, variable_forms};
@@ -12,7 +13,7 @@ ghost use Rattle.pb_protocol_tree.specs.Form.{state_variables_form};
 ghost use Rattle.pb_protocol_typing.specs.Faults.{lists_faults, names_hiding};
 ghost use Rattle.pb_protocol_typing.specs.ListLinks.{operands_lists, links_lists};
 ghost use Rattle.pb_protocol_typing.specs.ListLinks.{operations_lists};
-ghost use Rattle.pb_protocol_typing.specs.Lists.{arguments_lists, assignment_lists};
+ghost use Rattle.pb_protocol_typing.specs.Lists.{arguments_lists, assignment_lists, copied_lists};
 ghost use Rattle.pb_protocol_typing.specs.Lists.{declared_lists, definition_lists, formula_lists};
 ghost use Rattle.pb_protocol_typing.specs.Lists.{index_lists, own_lists, parameter_lists};
 ghost use Rattle.pb_protocol_typing.specs.Lists.{property_lists, protocol_lists, step_lists};
@@ -181,6 +182,32 @@ fn push_definitions<'a>(
     Ok(())
 }
 
+/// Adds the variables of a `forall` before an assignment.
+fn push_copied<'a>(
+    lists: &mut Vec<&'a [Variables]>,
+    assignment: &'a Assignment,
+) -> Result<(), AllocError>
+    ensures { OnOk result (list_forms lists.new.items
+        ≡ list_forms lists.old.items ++ copied_lists (assignment_form assignment.now)) }
+{
+    if let Some(copies) = &assignment.copies {
+        lists.push(copies.variables.as_slice())?;
+    }
+    Ok(())
+}
+
+fn push_assignment<'a>(
+    lists: &mut Vec<&'a [Variables]>,
+    assignment: &'a Assignment,
+) -> Result<(), AllocError>
+    ensures { OnOk result (list_forms lists.new.items
+        ≡ list_forms lists.old.items ++ assignment_lists (assignment_form assignment.now)) }
+{
+    push_copied(lists, assignment)?;
+    push_arguments(lists, &assignment.index)?;
+    push_term(lists, &assignment.value.term)
+}
+
 fn push_assignments<'a>(
     lists: &mut Vec<&'a [Variables]>,
     assignments: &'a [Assignment],
@@ -189,8 +216,7 @@ fn push_assignments<'a>(
         ++ flat_map assignment_lists (map assignment_form assignments.now)) }
 {
     for assignment in assignments {
-        push_arguments(lists, &assignment.index)?;
-        push_term(lists, &assignment.value.term)?;
+        push_assignment(lists, assignment)?;
     }
     Ok(())
 }
@@ -227,8 +253,11 @@ fn push_properties<'a>(
     Ok(())
 }
 
-/// The lists of variables of a protocol.
-fn all_lists(alloc: Global, protocol: &Protocol) -> Result<Vec<&'_ [Variables]>, AllocError>
+/// The lists of variables of a protocol, in order.
+///
+/// # Errors
+/// Memory was refused.
+pub fn all_lists(alloc: Global, protocol: &Protocol) -> Result<Vec<&'_ [Variables]>, AllocError>
     ensures { IfOk result (λ lists. list_forms lists.items
         ≡ protocol_lists (protocol_form protocol.now)) }
 {
@@ -254,17 +283,38 @@ fn push_parameters<'a>(
     Ok(())
 }
 
-fn push_own<'a>(lists: &mut Vec<&'a [Variables]>, steps: &'a [Step]) -> Result<(), AllocError>
-    ensures { OnOk result (list_forms lists.new.items
-        ≡ list_forms lists.old.items ++ own_lists (map step_form steps.now)) }
+fn push_all_copied<'a>(
+    lists: &mut Vec<&'a [Variables]>,
+    assignments: &'a [Assignment],
+) -> Result<(), AllocError>
+    ensures { OnOk result (list_forms lists.new.items ≡ list_forms lists.old.items
+        ++ flat_map copied_lists (map assignment_form assignments.now)) }
 {
-    for step in steps {
-        lists.push(step.variables.as_slice())?;
+    for assignment in assignments {
+        push_copied(lists, assignment)?;
     }
     Ok(())
 }
 
-/// The lists of indices, parameters and own variables.
+fn push_declared<'a>(lists: &mut Vec<&'a [Variables]>, step: &'a Step) -> Result<(), AllocError>
+    ensures { OnOk result (list_forms lists.new.items
+        ≡ list_forms lists.old.items ++ own_lists (step_form step.now)) }
+{
+    lists.push(step.variables.as_slice())?;
+    push_all_copied(lists, &step.assignments)
+}
+
+fn push_own<'a>(lists: &mut Vec<&'a [Variables]>, steps: &'a [Step]) -> Result<(), AllocError>
+    ensures { OnOk result (list_forms lists.new.items
+        ≡ list_forms lists.old.items ++ flat_map own_lists (map step_form steps.now)) }
+{
+    for step in steps {
+        push_declared(lists, step)?;
+    }
+    Ok(())
+}
+
+/// The lists of indices, parameters, own variables and variables of assignments.
 fn declared_lists(alloc: Global, protocol: &Protocol) -> Result<Vec<&'_ [Variables]>, AllocError>
     ensures { IfOk result (λ lists. list_forms lists.items
         ≡ declared_lists (protocol_form protocol.now)) }

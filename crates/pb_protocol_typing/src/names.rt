@@ -37,7 +37,7 @@ pub fn check_apart(alloc: Global, names: &[&Name]) -> Result<(), TypeError>
     Ok(())
 }
 
-fn is_blank(name: &Name) -> bool
+pub(crate) fn is_blank(name: &Name) -> bool
     ensures { result ≡ is_blank (named name.now) }
 {
     name.text.as_str() == "_"
@@ -120,7 +120,11 @@ fn property_names(alloc: Global, properties: &[Property]) -> Result<Vec<&Name>, 
     Ok(names)
 }
 
-fn declared_names(alloc: Global, protocol: &Protocol) -> Result<Vec<&Name>, AllocError>
+/// The names of the state variables and definitions of a protocol, in order.
+///
+/// # Errors
+/// Memory was refused.
+pub fn declared_names(alloc: Global, protocol: &Protocol) -> Result<Vec<&Name>, AllocError>
     ensures { IfOk result
         (λ names. names_in names.items ≡ declared_names (protocol_form protocol.now)) }
 {
@@ -142,15 +146,30 @@ pub(crate) fn check_names(alloc: Global, protocol: &Protocol) -> Result<(), Type
     check_apart(alloc, &properties)
 }
 
+/// Adds the names of variables, in order.
+///
+/// # Errors
+/// Memory was refused.
+pub fn push_variable_names<'a>(
+    names: &mut Vec<&'a Name>,
+    groups: &'a [Variables],
+) -> Result<(), AllocError>
+    ensures { OnOk result (names_in names.new.items
+        ≡ names_in names.old.items ++ variable_names (variable_forms groups.now)) }
+{
+    for group in groups {
+        push_group(names, group)?;
+    }
+    Ok(())
+}
+
 /// The names of variables, in order.
 fn variable_names(alloc: Global, groups: &[Variables]) -> Result<Vec<&Name>, AllocError>
     ensures { IfOk result
         (λ names. names_in names.items ≡ variable_names (variable_forms groups.now)) }
 {
     let mut names = Vec::new(alloc);
-    for group in groups {
-        push_group(&mut names, group)?;
-    }
+    push_variable_names(&mut names, groups)?;
     Ok(names)
 }
 
@@ -166,7 +185,7 @@ fn push_group<'a>(names: &mut Vec<&'a Name>, group: &'a Variables) -> Result<(),
 
 /// Whether no variable but a quantifier's in data may have this name: it is a state variable's or a
 /// definition's, or `_`.
-pub(crate) fn is_reserved(known: &HashMap<&'_ str, Signature>, name: &Name) -> bool
+fn is_reserved(known: &HashMap<&'_ str, Signature>, name: &Name) -> bool
     ensures { result ≡ is_reserved (signatures_in known.now) (named name.now) }
 {
     known.contains_key(name.text.as_str()) || is_blank(name)

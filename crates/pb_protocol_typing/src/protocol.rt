@@ -17,7 +17,7 @@ use crate::around::Around;
 use crate::formula::formula_fault;
 use crate::lists::check_lists;
 use crate::names::check_names;
-use crate::scope::Scope;
+use crate::scope::{Naming, Scope};
 use crate::signature::{Signature, Steps, state_entries, state_table, step_table};
 use crate::step::{check_definitions, initial_fault, steps_fault};
 use pb_protocol_tree::{Property, Protocol};
@@ -106,12 +106,13 @@ fn check_parts(
     let scope = Scope {
         declarations,
         signatures: known,
+        naming: Naming::All,
         around: &around,
     };
     if let Some(fault) = steps_fault(&scope, &protocol.steps) {
         return Err(TypeError::Refused(fault));
     }
-    if let Some(fault) = initial_fault(alloc, declarations, &entries, &protocol.initial) {
+    if let Some(fault) = initial_fault(declarations, known, &entries, &protocol.initial) {
         return Err(TypeError::Refused(fault));
     }
     if let Some(fault) = properties_fault(&steps, &scope, &protocol.properties) {

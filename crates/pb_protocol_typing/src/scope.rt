@@ -4,8 +4,8 @@ ghost use Rattle.std.specs.Prelude.{◌≡◌, Some};
 ghost use Rattle.std.specs.Option.{option_map};
 ghost use Rattle.pb_text_tree.specs.Form.{named};
 ghost use Rattle.pb_protocol_typing.specs.Scopes.{meaning_fault, meaning_kind, name_meaning};
-ghost use Rattle.pb_protocol_typing.specs.Scopes.{unknown_fault};
-ghost use Rattle.pb_protocol_typing.specs.View.{binders, scope_of, signature_of};
+ghost use Rattle.pb_protocol_typing.specs.Scopes.{unknown_fault, unless_state};
+ghost use Rattle.pb_protocol_typing.specs.View.{binders, scope_of, signature_behind};
 
 use crate::around::{Around, is_fixpoint, sort_around};
 use crate::kind::{Kind, sort_kind};
@@ -14,13 +14,45 @@ use pb_text_tree::Name;
 use pb_typing_declarations::{Declarations, TypingFault, TypingRule};
 use std::collections::HashMap;
 
-/// What a text declares, the state variables and definitions that may be named, and what stands
-/// around.
+/// Which of the state variables and definitions may be named.
+#[derive(Clone, Copy)]
+pub(crate) enum Naming {
+    All,
+    /// The definitions that don't read the state, at the start.
+    AtStart,
+}
+
+/// What a text declares, the state variables and definitions, of which some may be named, and what
+/// stands around.
 #[derive(Clone, Copy)]
 pub(crate) struct Scope<'a, 'd> {
     pub declarations: &'a Declarations<'d>,
     pub signatures: &'a HashMap<&'d str, Signature>,
+    pub naming: Naming,
     pub around: &'a Around<'a>,
+}
+
+/// A state variable or definition, unless it reads the state.
+pub(crate) fn unless_state(signature: Option<&Signature>) -> Option<&Signature>
+    ensures { signature_behind result ≡ unless_state (signature_behind signature.entry) }
+{
+    match signature {
+        Some(signature) if !signature.reads_state => Some(signature),
+        _ => None,
+    }
+}
+
+impl<'a> Scope<'a, '_> {
+    /// The state variable or definition of a name, if it may be named.
+    pub fn signature(&self, name: &str) -> Option<&'a Signature>
+        ensures { signature_behind result ≡ (scope_of self.now).signatures name.now }
+    {
+        let signature = self.signatures.get(name);
+        match self.naming {
+            Naming::All => signature,
+            Naming::AtStart => unless_state(signature),
+        }
+    }
 }
 
 /// What a bare name stands for.
@@ -39,7 +71,7 @@ pub(crate) fn name_meaning(scope: &Scope<'_, '_>, name: &str) -> NameMeaning
     if let Some(sort) = sort_around(scope.around, name) {
         return NameMeaning::Value(sort_kind(scope.declarations, &sort.text));
     }
-    if let Some(signature) = scope.signatures.get(name) {
+    if let Some(signature) = scope.signature(name) {
         if signature.parameters.is_empty() {
             return NameMeaning::Value(signature.kind);
         }

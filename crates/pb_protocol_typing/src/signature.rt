@@ -11,6 +11,7 @@ ghost use Rattle.pb_protocol_typing.specs.View.{own_shapes, shapes_in, signature
 ghost use Rattle.pb_protocol_typing.specs.View.{signatures_in, state_forms};
 
 use crate::kind::{Kind, sort_kind};
+use crate::written_as::WrittenAs;
 use pb_protocol_tree::{StateVariable, StateVariables, Step};
 use pb_sorts::Carrier;
 use pb_text_tree::{Name, Variables};
@@ -23,8 +24,11 @@ use std::collections::HashMap;
 #[derive(Drop)]
 pub(crate) struct Signature {
     pub is_state: bool,
+    /// A state variable does, and a definition that names what does.
+    pub reads_state: bool,
     pub parameters: Vec<Option<Carrier>>,
     pub kind: Kind,
+    pub written: WrittenAs,
 }
 
 /// What a step's own variables may be, in order.
@@ -136,8 +140,10 @@ pub(crate) fn state_table<'a>(
         let kind = sort_kind(declarations, &entry.sort.text);
         let signature = Signature {
             is_state: true,
+            reads_state: true,
             parameters,
             kind,
+            written: WrittenAs::Calculated,
         };
         insert(&mut table, &entry.variable.name, signature)?;
     }

@@ -6,28 +6,33 @@ ghost use Rattle.pb_base.specs.OrMemory.{IfFault};
 ghost use Rattle.pb_text_tree.specs.Form.{argument_forms, term_form};
 ghost use Rattle.pb_typing_declarations.specs.View.{spec_of};
 ghost use Rattle.pb_model_tree.specs.Form.{initial_form};
-ghost use Rattle.pb_protocol_tree.specs.Form.{assignment_form, definition_form, step_form};
+ghost use Rattle.pb_protocol_tree.specs.Form.{assignment_form, copies_form, definition_form};
+ghost use Rattle.pb_protocol_tree.specs.Form.{step_form};
 ghost use Rattle.pb_protocol_typing.specs.Signatures.{definition_scope, definition_signature};
-ghost use Rattle.pb_protocol_typing.specs.Signatures.{no_signatures, with_definitions};
+ghost use Rattle.pb_protocol_typing.specs.Signatures.{value_written, with_definitions};
 ghost use Rattle.pb_protocol_typing.specs.Fault.{first_fault};
-ghost use Rattle.pb_protocol_typing.specs.Steps.{again_fault, assigned_fault, assignment_fault};
-ghost use Rattle.pb_protocol_typing.specs.Steps.{count};
+ghost use Rattle.pb_protocol_typing.specs.Steps.{again_fault, assigned_fault, assigned_in_fault};
+ghost use Rattle.pb_protocol_typing.specs.Steps.{assignment_by, assignment_fault, count};
 ghost use Rattle.pb_protocol_typing.specs.Steps.{definitions_fault, element_fault, own_fault};
 ghost use Rattle.pb_protocol_typing.specs.Steps.{element_value_fault, elements_fault};
 ghost use Rattle.pb_protocol_typing.specs.Steps.{initial_fault, step_fault, twice_fault};
 ghost use Rattle.pb_protocol_typing.specs.Terms.{kinds, term_fault};
 ghost use Rattle.pb_protocol_typing.specs.View.{scope_of, signature_of, state_entry_form};
-ghost use Rattle.pb_protocol_typing.specs.View.{signatures_in, state_forms};
+ghost use Rattle.pb_protocol_typing.specs.View.{signatures_in, state_forms, written_of};
 
 use crate::around::Around;
+use crate::copies::copies_fault;
 use crate::index::are_same;
 use crate::kind::sort_kind;
-use crate::scope::Scope;
+use crate::reading::reads_state;
+use crate::scope::{Naming, Scope};
 use crate::signature::{Signature, StateEntry, insert, variable_carriers};
 use crate::term::{arguments_fault, condition_fault, fault_unless, term_fault, value_fault};
 use crate::term_kind::kind_of;
+use crate::written::{Written, as_written};
+use crate::written_as::WrittenAs;
 use pb_model_tree::InitialState;
-use pb_protocol_tree::{Assignment, Definition, Step};
+use pb_protocol_tree::{Assignment, Copies, Definition, Step};
 use pb_text_tree::Argument;
 use pb_typing_declarations::{Declarations, TypeError, TypingFault, TypingRule};
 use std::alloc::Global;
@@ -35,6 +40,21 @@ use std::collections::HashMap;
 
 /// The most assignments that a step may have. Each is looked at beside those before it.
 pub const MAX_ASSIGNMENTS: usize = 1024;
+
+/// How a term is written that is written out, or a definition that it names.
+fn value_written(known: &HashMap<&'_ str, Signature>, value: Written<'_>) -> WrittenAs
+    ensures { result ≡ value_written (signatures_in known.now) (written_of value.entry) }
+{
+    match value {
+        Written::Boolean(_) => WrittenAs::OfKind,
+        Written::Number(is_negative, size) => WrittenAs::Number(is_negative, size),
+        Written::Alone(name) => match known.get(name.text.as_str()) {
+            Some(signature) => signature.written,
+            None => WrittenAs::OfKind,
+        },
+        Written::Other => WrittenAs::Calculated,
+    }
+}
 
 /// What a definition is as those behind it name it, if its term is as it must be.
 fn check_definition<'d>(
@@ -58,17 +78,22 @@ fn check_definition<'d>(
     let scope = Scope {
         declarations,
         signatures: known,
+        naming: Naming::All,
         around: &around,
     };
     if let Some(fault) = term_fault(&scope, &definition.term) {
         return Err(TypeError::Refused(fault));
     }
     let kind = kind_of(&scope, &definition.term);
+    let reads_state = reads_state(&scope, &definition.term);
+    let written = value_written(known, as_written(&definition.term));
     let parameters = variable_carriers(alloc, declarations, &definition.parameters)?;
     Ok(Signature {
         is_state: false,
+        reads_state,
         parameters,
         kind,
+        written,
     })
 }
 
@@ -140,17 +165,49 @@ fn assigned_fault<'a>(
     element_fault(scope, signature, assignment)
 }
 
-/// The first fault of an assignment.
-fn assignment_fault<'a>(scope: &Scope<'a, '_>, assignment: &'a Assignment) -> Option<TypingFault>
-    ensures { result ≡ assignment_fault (scope_of scope.now) (assignment_form assignment.now) }
+/// The first fault of an assignment in the scope of its variables.
+fn assigned_in_fault<'a>(scope: &Scope<'a, '_>, assignment: &'a Assignment) -> Option<TypingFault>
+    ensures { result ≡ assigned_in_fault (scope_of scope.now) (assignment_form assignment.now) }
 {
     let name = &assignment.variable;
-    match scope.signatures.get(name.text.as_str()) {
+    match scope.signature(name.text.as_str()) {
         None => Some(TypingFault {
             rule: TypingRule::UnknownName,
             place: name.place,
         }),
         Some(signature) => assigned_fault(scope, signature, assignment),
+    }
+}
+
+/// The first fault of an assignment for all values of variables.
+fn copied_fault<'a>(
+    scope: &Scope<'a, '_>,
+    copies: &'a Copies,
+    assignment: &'a Assignment,
+) -> Option<TypingFault>
+    ensures { result ≡ assignment_by (scope_of scope.now) (Some (copies_form copies.now))
+        (assignment_form assignment.now) }
+{
+    if let Some(fault) = copies_fault(scope, &assignment.index, &copies.variables) {
+        return Some(fault);
+    }
+    let around = Around::Variables(&copies.variables, scope.around);
+    let inner = Scope {
+        declarations: scope.declarations,
+        signatures: scope.signatures,
+        naming: scope.naming,
+        around: &around,
+    };
+    assigned_in_fault(&inner, assignment)
+}
+
+/// The first fault of an assignment.
+fn assignment_fault<'a>(scope: &Scope<'a, '_>, assignment: &'a Assignment) -> Option<TypingFault>
+    ensures { result ≡ assignment_fault (scope_of scope.now) (assignment_form assignment.now) }
+{
+    match &assignment.copies {
+        None => assigned_in_fault(scope, assignment),
+        Some(copies) => copied_fault(scope, copies, assignment),
     }
 }
 
@@ -229,6 +286,7 @@ fn step_fault<'a>(scope: &Scope<'a, '_>, step: &'a Step) -> Option<TypingFault>
     let inner = Scope {
         declarations: scope.declarations,
         signatures: scope.signatures,
+        naming: scope.naming,
         around: &around,
     };
     own_fault(&inner, step)
@@ -246,68 +304,58 @@ pub(crate) fn steps_fault<'a>(scope: &Scope<'a, '_>, steps: &'a [Step]) -> Optio
     None
 }
 
-/// The first fault of the term of a state variable in `init`, where nothing is known.
+/// The first fault of the term of a state variable in `init`, where there is no state.
 fn initial_value_fault(
     declarations: &Declarations<'_>,
-    none: &HashMap<&'_ str, Signature>,
+    known: &HashMap<&'_ str, Signature>,
     entry: &StateEntry<'_>,
     value: &Argument,
 ) -> Option<TypingFault>
-    requires { signatures_in none.now ≡ no_signatures }
-    ensures { result ≡ element_value_fault (spec_of declarations.now)
+    ensures { result ≡ element_value_fault (spec_of declarations.now) (signatures_in known.now)
         (Some (state_entry_form entry.now)) value.now.place (term_form value.now.term) }
 {
     let outermost = Around::Outermost;
     let around = Around::Variables(&entry.variable.indices, &outermost);
     let scope = Scope {
         declarations,
-        signatures: none,
+        signatures: known,
+        naming: Naming::AtStart,
         around: &around,
     };
     let kind = sort_kind(declarations, &entry.sort.text);
     value_fault(&scope, kind, value)
 }
 
-/// The names that may stand in `init`: none of state variables and definitions.
-fn no_names<'d>(alloc: Global) -> HashMap<&'d str, Signature>
-    ensures { signatures_in result ≡ no_signatures }
-{
-    HashMap::new(alloc)
-}
-
 /// The first fault of the term at a place in `init`.
 fn element_value_fault(
-    alloc: Global,
     declarations: &Declarations<'_>,
+    known: &HashMap<&'_ str, Signature>,
     entries: &[StateEntry<'_>],
     index: usize,
     value: &Argument,
 ) -> Option<TypingFault>
-    ensures { result ≡ element_value_fault (spec_of declarations.now)
+    ensures { result ≡ element_value_fault (spec_of declarations.now) (signatures_in known.now)
         (slice_get (state_forms entries.now) index) value.now.place
         (term_form value.now.term) }
 {
     match entries.get(index) {
         None => None,
-        Some(entry) => {
-            let none = no_names(alloc);
-            initial_value_fault(declarations, &none, entry, value)
-        }
+        Some(entry) => initial_value_fault(declarations, known, entry, value),
     }
 }
 
 /// The first fault of the terms of `init`.
 fn elements_fault(
-    alloc: Global,
     declarations: &Declarations<'_>,
+    known: &HashMap<&'_ str, Signature>,
     entries: &[StateEntry<'_>],
     values: &[Argument],
 ) -> Option<TypingFault>
-    ensures { result ≡ elements_fault (spec_of declarations.now) 0 (state_forms entries.now)
-        (argument_forms values.now) }
+    ensures { result ≡ elements_fault (spec_of declarations.now) (signatures_in known.now) 0
+        (state_forms entries.now) (argument_forms values.now) }
 {
     for (index, value) in values.iter().enumerate() {
-        if let Some(fault) = element_value_fault(alloc, declarations, entries, index, value) {
+        if let Some(fault) = element_value_fault(declarations, known, entries, index, value) {
             return Some(fault);
         }
     }
@@ -323,17 +371,17 @@ fn is_count(entries: &[StateEntry<'_>], values: &[Argument]) -> bool
 
 /// The first fault of the initial values.
 pub(crate) fn initial_fault(
-    alloc: Global,
     declarations: &Declarations<'_>,
+    known: &HashMap<&'_ str, Signature>,
     entries: &[StateEntry<'_>],
     initial: &InitialState,
 ) -> Option<TypingFault>
-    ensures { result ≡ initial_fault (spec_of declarations.now) (state_forms entries.now)
-        (initial_form initial.now) }
+    ensures { result ≡ initial_fault (spec_of declarations.now) (signatures_in known.now)
+        (state_forms entries.now) (initial_form initial.now) }
 {
     let is_count = is_count(entries, &initial.values);
     if let Some(fault) = fault_unless(is_count, TypingRule::WrongCount, initial.place) {
         return Some(fault);
     }
-    elements_fault(alloc, declarations, entries, &initial.values)
+    elements_fault(declarations, known, entries, &initial.values)
 }

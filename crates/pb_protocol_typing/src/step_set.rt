@@ -6,20 +6,22 @@ ghost use Rattle.pb_typing_declarations.specs.Entries.{carrier_shape};
 ghost use Rattle.pb_typing_declarations.specs.Enumerators.{enumerator_of};
 ghost use Rattle.pb_protocol_tree.specs.Form.{step_set_form, step_value_form};
 ghost use Rattle.pb_protocol_typing.specs.FormulaLinks.{sets_fault};
-ghost use Rattle.pb_protocol_typing.specs.Scopes.{sort_around};
-ghost use Rattle.pb_protocol_typing.specs.Sets.{alone_fault, instances_fault, is_included};
-ghost use Rattle.pb_protocol_typing.specs.Sets.{is_within, kind_fault, set_fault};
+ghost use Rattle.pb_protocol_typing.specs.Scopes.{sort_around, unless_state};
+ghost use Rattle.pb_protocol_typing.specs.Sets.{alone_fault, definition_fault, instances_fault};
+ghost use Rattle.pb_protocol_typing.specs.Sets.{is_included, is_within, kind_fault, number_fault};
+ghost use Rattle.pb_protocol_typing.specs.Sets.{set_fault};
 ghost use Rattle.pb_protocol_typing.specs.Sets.{step_value_fault, values_fault, variable_fault};
 ghost use Rattle.pb_protocol_typing.specs.Sets.{written_fault};
-ghost use Rattle.pb_protocol_typing.specs.View.{scope_of, shapes_in, written_of};
+ghost use Rattle.pb_protocol_typing.specs.View.{scope_of, shapes_in, signature_of, written_of};
 
 use crate::around::sort_around;
 use crate::kind::{Kind, agree, carrier_kind};
-use crate::scope::Scope;
-use crate::signature::Steps;
+use crate::scope::{Scope, unless_state};
+use crate::signature::{Signature, Steps};
 use crate::term::fault_unless;
 use crate::term_kind::carrier_at;
 use crate::written::{Written, as_written};
+use crate::written_as::WrittenAs;
 use pb_protocol_tree::{StepSet, StepSetLink, StepValue};
 use pb_sorts::Carrier;
 use pb_text_tree::{Name, Place};
@@ -75,6 +77,48 @@ fn variable_fault(
     fault_unless(is_included, TypingRule::OutsideCarrier, place)
 }
 
+/// A number as the value of a step's own variable.
+fn number_fault(
+    own: Option<Carrier>,
+    place: Place,
+    is_negative: bool,
+    size: u64,
+) -> Option<TypingFault>
+    ensures { result ≡ number_fault (carrier_shape own) place is_negative size }
+{
+    if let Some(fault) = kind_fault(Kind::Whole, own, place) {
+        return Some(fault);
+    }
+    let is_within = is_within(own, is_negative, size);
+    fault_unless(is_within, TypingRule::OutsideCarrier, place)
+}
+
+/// What a definition without state stands for, as the value of a step's own variable.
+fn definition_fault(
+    signature: &Signature,
+    own: Option<Carrier>,
+    place: Place,
+    name: &Name,
+) -> Option<TypingFault>
+    ensures { result ≡ definition_fault (signature_of signature.now) (carrier_shape own) place
+        (named name.now) }
+{
+    if !signature.parameters.is_empty() {
+        return Some(TypingFault {
+            rule: TypingRule::WrongCount,
+            place: name.place,
+        });
+    }
+    match signature.written {
+        WrittenAs::Number(is_negative, size) => number_fault(own, place, is_negative, size),
+        WrittenAs::OfKind => kind_fault(signature.kind, own, place),
+        WrittenAs::Calculated => Some(TypingFault {
+            rule: TypingRule::WrongKind,
+            place,
+        }),
+    }
+}
+
 /// A name as the value of a step's own variable.
 fn alone_fault(
     scope: &Scope<'_, '_>,
@@ -84,11 +128,15 @@ fn alone_fault(
 ) -> Option<TypingFault>
     ensures { result ≡ alone_fault (scope_of scope.now)
         (sort_around (scope_of scope.now).around (named name.now).text)
+        (unless_state ((scope_of scope.now).signatures (named name.now).text))
         (enumerator_of (scope_of scope.now).spec (named name.now).text)
         (carrier_shape own) place (named name.now) }
 {
     if let Some(sort) = sort_around(scope.around, &name.text) {
         return variable_fault(scope.declarations.carrier(&sort.text), own, place);
+    }
+    if let Some(signature) = unless_state(scope.signature(&name.text)) {
+        return definition_fault(signature, own, place, name);
     }
     match scope.declarations.enumerator(&name.text) {
         Some(enumerator) => kind_fault(Kind::Struct(enumerator.sort), own, place),
@@ -111,13 +159,7 @@ fn written_fault(
 {
     match value {
         Written::Boolean(_) => kind_fault(Kind::Truth, own, place),
-        Written::Number(is_negative, size) => {
-            if let Some(fault) = kind_fault(Kind::Whole, own, place) {
-                return Some(fault);
-            }
-            let is_within = is_within(own, is_negative, size);
-            fault_unless(is_within, TypingRule::OutsideCarrier, place)
-        }
+        Written::Number(is_negative, size) => number_fault(own, place, is_negative, size),
         Written::Alone(name) => alone_fault(scope, own, place, name),
         Written::Other => Some(TypingFault {
             rule: TypingRule::WrongKind,

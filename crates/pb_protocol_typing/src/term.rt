@@ -197,6 +197,7 @@ fn quantified_fault<'a>(
     let inner = Scope {
         declarations: scope.declarations,
         signatures: scope.signatures,
+        naming: scope.naming,
         around: &around,
     };
     condition_fault(&inner, place, body)

@@ -77,6 +77,7 @@ impossible_steps_lead_nowhere m hides a among impossible s =
       elements = hides.elements;
       enumerators = hides.enumerators;
       values = hides.values;
+      definitions = hides.definitions;
       steps = subst (λ (is : List Instance). AreDistinct (map instance_name is)) (sym (append-nil all)) (own-apart (data_of m) m.steps a among hides.steps);
     } in
     let none : folded_steps (data_of m) (map (unfolded_step m) (all ++ [])) ≡ [] =

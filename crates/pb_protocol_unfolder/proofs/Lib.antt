@@ -12,6 +12,7 @@ mod PlainState
 mod SetLemmas
 mod MemberLemmas
 mod ValueLemmas
+mod DefinedLemmas
 mod ChainFormulas
 mod LeftLemmas
 mod OperatorLemmas

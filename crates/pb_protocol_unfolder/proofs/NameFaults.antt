@@ -1,5 +1,5 @@
 -- Names and limits for which a protocol is refused.
-use Rattle.std.proofs.Common.{◌≡◌, ◌<◌, ◌∙◌, ℕ, true, inl, inr, refl, sym, ap, subst, arith, List, map, length, get_or, Some}
+use Rattle.std.proofs.Common.{◌≡◌, ◌<◌, ◌∙◌, ℕ, true, inl, inr, refl, sym, ap, subst, arith, List, [], ◌∷◌, map, length, get_or, Some}
 use Rattle.std.specs.Prelude.{option_map}
 use Rattle.std.specs.List.{slice_get}
 use Rattle.std.proofs.lemmas.List.{length-map}
@@ -7,8 +7,11 @@ use Rattle.std.proofs.lemmas.Option.{slice_get-map, slice_get-get_or}
 use Rattle.pb_text_tree.specs.declared.place.Place.{Place}
 use Rattle.pb_text_meaning.specs.Syntax.{Name}
 use Rattle.pb_protocol_folding.specs.Names.{enumerators_in}
-use Rattle.pb_protocol_tree.specs.Form.{ProtocolForm}
-use Rattle.pb_protocol_meaning.specs.Erase.{erase}
+use Rattle.pb_protocol_tree.specs.declared.protocol.Definition as declared_definition
+use Rattle.pb_protocol_tree.specs.Form.{DefinitionForm, ProtocolForm, definition_form}
+use Rattle.pb_protocol_meaning.specs.Syntax.{Definition}
+use Rattle.pb_protocol_meaning.specs.Erase.{erase, erased_definition}
+use Rattle.pb_protocol_unfolding.specs.Hygiene.{definition_names}
 use Rattle.pb_protocol_unfolding.specs.Unfolding.{all_elements, instance_name, instances, name_of}
 use Rattle.pb_protocol_unfolder_steps.specs.declared.fault.StepsFault.{StepsFault}
 use Rattle.pb_protocol_unfolder_steps.specs.declared.fault.StepsFault.TheVariants as steps_fault
@@ -28,9 +31,9 @@ use Rattle.pb_protocol_unfolder_steps.specs.declared.limits.TheConstants.{MAX_WR
 use Rattle.pb_protocol_unfolder_steps.specs.StepFaults.{IsTermOr, OnTerm, WithValues}
 use Rattle.pb_protocol_unfolder_steps.specs.Refusals.{IsPassedIn, element_places, instance_places}
 use Rattle.pb_protocol_unfolder.specs.declared.fault.UnfoldingFault.{UnfoldingFault}
-use Rattle.pb_protocol_unfolder.specs.Apart.{IsTakenAt, RepeatsAt}
-use Rattle.pb_protocol_unfolder.specs.Faults.{IsElementClash, IsRepeated, IsTaken, IsUnfoldingFault, OfTerm, OfToken, rule_of}
-use Rattle.pb_protocol_unfolder.specs.Parts.{IsFaultBy, IsFaultOfElements, IsFaultOfInstances, IsOfSteps, IsOfTerm}
+use Rattle.pb_protocol_unfolder.specs.Apart.{IsTakenAt, RepeatsAt, definition_bytes, definition_place}
+use Rattle.pb_protocol_unfolder.specs.Faults.{IsElementClash, IsRepeated, IsTaken, IsUnfoldingFault, OfTerm, OfToken, definition_places, rule_of}
+use Rattle.pb_protocol_unfolder.specs.Parts.{IsFaultBy, IsFaultOfDefinitions, IsFaultOfElements, IsFaultOfInstances, IsOfSteps, IsOfTerm}
 use Rattle.pb_protocol_unfolder.proofs.FaultLemmas.{names-break}
 
 -- ---- a name and its place
@@ -68,8 +71,26 @@ pub instances-clash : (m : ProtocolForm) (names : List Name) (places : List Plac
 instances-clash m names places same-names same-places =
     names-break m (IsRepeated names places)
     (λ p is.
-    inr (subst (λ (v : List Name). IsRepeated v (instance_places m) p) same-names
-    (subst (λ (v : List Place). IsRepeated names v p) same-places is)))
+    inr (inl (subst (λ (v : List Name). IsRepeated v (instance_places m) p) same-names
+    (subst (λ (v : List Place). IsRepeated names v p) same-places is))))
+
+pub definitions-clash : (m : ProtocolForm) (es names : List Name) (places : List Place) → es ≡ enumerators_in (erase m).sorts → names ≡ definition_names (erase m) → places ≡ definition_places m
+    → (f : UnfoldingFault) → IsFaultOfDefinitions es names places f → IsUnfoldingFault m f
+definitions-clash m es names places same-es same-names same-places =
+    names-break m (IsTaken es names places)
+    (λ p is.
+    inr (inr (subst (λ (v : List Name). IsTaken v (definition_names (erase m)) (definition_places m) p) same-es
+    (subst (λ (v : List Name). IsTaken es v (definition_places m) p) same-names
+    (subst (λ (v : List Place). IsTaken es names v p) same-places is)))))
+
+-- as the code has them
+pub names-said : (ds : List declared_definition.Definition) → map definition_bytes ds ≡ map (λ (d : Definition). d.name) (map erased_definition (map definition_form ds))
+names-said [] = refl
+names-said (d ∷ ds) = ap (λ xs. definition_bytes d ∷ xs) (names-said ds)
+
+pub places-said : (ds : List declared_definition.Definition) → map definition_place ds ≡ map (λ (d : DefinitionForm). d.name.place) (map definition_form ds)
+places-said [] = refl
+places-said (d ∷ ds) = ap (λ xs. definition_place d ∷ xs) (places-said ds)
 
 -- ---- limits
 

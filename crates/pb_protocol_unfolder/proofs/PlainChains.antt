@@ -1,6 +1,6 @@
 -- A chain is plain where its operands are.
-use Rattle.std.proofs.Common.{◌≡◌, ◌∙◌, refl, sym, ap, Bool, true, false, ◌&&◌, List, [], ◌∷◌, map, Vec, Global, Box}
-use Rattle.std.specs.Prelude.{box_value}
+use Rattle.std.proofs.Common.{◌≡◌, ◌∙◌, refl, sym, ap, Bool, true, false, not, ◌&&◌, List, [], ◌∷◌, map, Vec, Global, Box}
+use Rattle.std.specs.Prelude.{box_value, string_bytes}
 use Rattle.std.specs.List.{list_all}
 use Rattle.pb_text_tree.specs.declared.operator.Connective.{Connective}
 use Rattle.pb_text_tree.specs.declared.term.Term as term
@@ -11,6 +11,7 @@ use Rattle.pb_text_tree.specs.declared.term.Argument.{Argument}
 use Rattle.pb_text_tree.specs.declared.name.Name.{Name}
 use Rattle.pb_text_tree.specs.Form.{TermForm, term_form, chained, calculated, term_links, arithmetic_links, argument_forms}
 use Rattle.pb_text_tree.proofs.FormLemmas.{term-chain, term-arithmetic, term-application}
+use Rattle.pb_text_counting.specs.Counting.{is_counting}
 use Rattle.pb_protocol_tree.specs.declared.formula.Formula as formula
 use Rattle.pb_protocol_tree.specs.declared.formula.Formula.{Formula}
 use Rattle.pb_protocol_tree.specs.declared.formula.Link.{Link}
@@ -68,9 +69,10 @@ term-calculated x p v ls t is at same =
     ∙ ap (λ (ks : List ArithmeticLink). is_plain_term (term_form x) && list_all is_plain_term (map operation_form ks)) (sym same)
 
 pub term-applied : (f : Name) (v : Vec Argument Global) (xs : List Argument) (t : Term) → t ≡ term.Application f v
-    → xs ≡ v.items → is_plain_term (term_form t) ≡ are_plain_arguments (argument_forms xs)
+    → xs ≡ v.items → is_plain_term (term_form t) ≡ (not (is_counting (string_bytes f.text)) && are_plain_arguments (argument_forms xs))
 term-applied f v xs t is same =
-    ap (λ (u : Term). is_plain_term (term_form u)) is ∙ ap is_plain_term (term-application f v) ∙ ap (λ (ys : List Argument). are_plain_arguments (argument_forms ys)) (sym same)
+    ap (λ (u : Term). is_plain_term (term_form u)) is ∙ ap is_plain_term (term-application f v)
+    ∙ ap (λ (ys : List Argument). not (is_counting (string_bytes f.text)) && are_plain_arguments (argument_forms ys)) (sym same)
 
 -- ---- formulas and sets of steps
 

@@ -1,9 +1,9 @@
 -- A protocol in which nothing is left out is its flat model, word for word.
-use Rattle.std.proofs.Common.{◌≡◌, ◌∙◌, refl, ap, Bool, true, false, ◌&&◌, List, [], ◌∷◌, map}
+use Rattle.std.proofs.Common.{◌≡◌, ◌∙◌, refl, ap, Bool, true, false, ◌&&◌, List, [], ◌∷◌, map, Option, Some, None}
 use Rattle.std.specs.List.{list_all}
 use Rattle.pb_text_tree.specs.Form.{VariableForm, ArgumentForms, no_arguments, argument}
-use Rattle.pb_protocol_tree.specs.Form.{StepSetForm, FormulaForm, StateVariableForm, AssignmentForm, StepForm, DefinitionForm, PropertyForm, ProtocolForm}
-use Rattle.pb_protocol_unfolder.specs.Plain.{plain_variable_form, plain_assignment_form, plain_step_form, plain_set_form, plain_formula_form, plain_property_form, plain_form, flat_variable, flat_assignment, flat_step_form, flat_set, flat_formula_form, flat_property, flat_form, is_plain_term, are_plain_arguments, has_no_variables, has_no_arguments, is_plain_variable, is_plain_assignment, is_plain_step, is_plain_set, is_plain_formula, is_plain_property, has_no_definitions, is_plain_protocol}
+use Rattle.pb_protocol_tree.specs.Form.{StepSetForm, FormulaForm, StateVariableForm, CopiesForm, AssignmentForm, StepForm, DefinitionForm, PropertyForm, ProtocolForm}
+use Rattle.pb_protocol_unfolder.specs.Plain.{plain_variable_form, plain_assignment_form, plain_step_form, plain_set_form, plain_formula_form, plain_property_form, plain_form, flat_variable, flat_assignment, flat_step_form, flat_set, flat_formula_form, flat_property, flat_form, is_plain_term, are_plain_arguments, has_no_variables, has_no_arguments, has_no_copies, is_plain_variable, is_plain_assignment, is_plain_step, is_plain_set, is_plain_formula, is_plain_property, has_no_definitions, is_plain_protocol}
 
 left : (b c : Bool) → b && c ≡ true → b ≡ true
 left true c e = refl
@@ -36,10 +36,17 @@ no-definitions (d ∷ ds) e = cc
 variable-same : (y : StateVariableForm) → is_plain_variable y ≡ true → plain_variable_form (flat_variable y) ≡ y
 variable-same y e = ap (λ (is : List VariableForm). let z : StateVariableForm = record { name = y.name; indices = is; sort = y.sort } in z) (none y.indices e)
 
+no-copies : (o : Option CopiesForm) → has_no_copies o ≡ true → None ≡ o
+no-copies None e = refl
+no-copies (Some x) e = cc
+
 assignment-same : (a : AssignmentForm) → is_plain_assignment a ≡ true → plain_assignment_form (flat_assignment a) ≡ a
 assignment-same a e =
-    ap (λ (ts : ArgumentForms). let z : AssignmentForm = record { variable = a.variable; index = ts; place = a.place; value = a.value } in z)
-    (no-arguments a.index (left (has_no_arguments a.index) (is_plain_term a.value) e))
+    let with : Option CopiesForm → ArgumentForms → AssignmentForm = λ o ts. record { copies = o; variable = a.variable; index = ts; place = a.place; value = a.value } in
+    let once = has_no_copies a.copies in
+    let whole = has_no_arguments a.index in
+    let first = left (once && whole) (is_plain_term a.value) e in
+    ap (λ o. with o no_arguments) (no-copies a.copies (left once whole first)) ∙ ap (with a.copies) (no-arguments a.index (right once whole first))
 
 step-same : (a : StepForm) → is_plain_step a ≡ true → plain_step_form (flat_step_form a) ≡ a
 step-same a e =

@@ -25,11 +25,12 @@ use Rattle.pb_model_tree.specs.declared.formula.Modality.{Modality}
 use Rattle.pb_protocol_unfolding.specs.PutIn.{TermScope, standing, term_of}
 use Rattle.pb_protocol_unfolding.specs.Unfolding.{terms_of}
 use Rattle.pb_protocol_folding.specs.Folding.{written_value}
-use Rattle.pb_protocol_meaning.specs.Steps.{data_of}
+use Rattle.pb_protocol_meaning.specs.Steps.{data_of, functions_at_start}
 use Rattle.pb_protocol_unfolder_terms.specs.declared.scope.TermScope as declared_scope
 use Rattle.pb_protocol_unfolder_steps.specs.declared.unfolder.Unfolder.{Unfolder}
 use Rattle.pb_protocol_unfolder_steps.specs.Unfolder.{protocol_in, scope_within}
 use Rattle.pb_protocol_unfolder.specs.declared.fault.UnfoldingFault.{UnfoldingFault}
+use Rattle.pb_protocol_unfolder.specs.Defined.{stands_for}
 use Rattle.pb_protocol_unfolder.specs.Faults.{HasNoValue, IsFaultOfFormula, IsFaultOfSet, IsFaultOfValue, OfMany, meant}
 use Rattle.pb_protocol_unfolder.specs.Parts.{IsAt, IsFaultIn, IsFaultOfCopies, IsFaultOfLinks, IsFaultOfModality, IsFaultOfSets}
 use Rattle.pb_protocol_unfolder.specs.View.{link_form, set_link_form, set_operand}
@@ -40,25 +41,28 @@ use Rattle.pb_protocol_unfolder.proofs.ValueLemmas.{is_nameless, nameless-value}
 
 -- ---- what a term in a set of steps says
 
-pub meant-bound : (ρ : TermScope) (x : Name) (k : Term) → Some k ≡ term_of ρ x → k ≡ meant ρ (Term.Named x)
-meant-bound ρ x k found = ap (λ (o : Option Term). unwrap_or o (Term.Named x)) found
+pub meant-bound : (m : Protocol) (ρ : TermScope) (x : Name) (k : Term) → Some k ≡ term_of ρ x → k ≡ meant m ρ (Term.Named x)
+meant-bound m ρ x k found = ap (λ (o : Option Term). unwrap_or o (stands_for m.definitions x)) found
 
-pub meant-free : (ρ : TermScope) (x : Name) → None ≡ term_of ρ x → Term.Named x ≡ meant ρ (Term.Named x)
-meant-free ρ x none = ap (λ (o : Option Term). unwrap_or o (Term.Named x)) none
+pub meant-free : (m : Protocol) (ρ : TermScope) (x : Name) → None ≡ term_of ρ x → stands_for m.definitions x ≡ meant m ρ (Term.Named x)
+meant-free m ρ x none = ap (λ (o : Option Term). unwrap_or o (stands_for m.definitions x)) none
 
-pub meant-nameless : (ρ : TermScope) (t : Term) → is_nameless t ≡ true → t ≡ meant ρ t
-meant-nameless ρ (Term.Named x) e = absurd (cc e)
-meant-nameless ρ (Term.Truth b) e = refl
-meant-nameless ρ (Term.Number n) e = refl
-meant-nameless ρ (Term.Not x) e = refl
-meant-nameless ρ (Term.Negative x) e = refl
-meant-nameless ρ (Term.Binary o x y) e = refl
-meant-nameless ρ (Term.Apply f xs) e = refl
-meant-nameless ρ (Term.Quantified q xs x) e = refl
+pub meant-nameless : (m : Protocol) (ρ : TermScope) (t : Term) → is_nameless t ≡ true → t ≡ meant m ρ t
+meant-nameless m ρ (Term.Named x) e = absurd (cc e)
+meant-nameless m ρ (Term.Truth b) e = refl
+meant-nameless m ρ (Term.Number n) e = refl
+meant-nameless m ρ (Term.Not x) e = refl
+meant-nameless m ρ (Term.Negative x) e = refl
+meant-nameless m ρ (Term.Binary o x y) e = refl
+meant-nameless m ρ (Term.Apply f xs) e = refl
+meant-nameless m ρ (Term.Quantified q xs x) e = refl
 
 pub said-so : {A : Type 0} (m : Protocol) (place : Place) (s t : Term) (r : Result A (OrMemory UnfoldingFault)) → s ≡ t
     → IfRefused r (IsFaultIn (IsAt place (HasNoValue m s))) → IfRefused r (IsFaultIn (IsAt place (HasNoValue m t)))
 said-so m place s t r same is = subst (λ (x : Term). IfRefused r (IsFaultIn (IsAt place (HasNoValue m x)))) same is
+
+pub said-value : {E : Type 0} (m : Protocol) (s t : Term) (r : Result Value E) → s ≡ t → IfOk r (λ v. written_value (data_of m) s ≡ Some v) → IfOk r (λ v. written_value (data_of m) t ≡ Some v)
+said-value m s t r same is = subst (λ (x : Term). IfOk r (λ v. written_value (data_of m) x ≡ Some v)) same is
 
 -- ---- what a call says of the same term, and of one without a name
 
@@ -67,16 +71,17 @@ module _ (u : Unfolder) (scope : declared_scope.TermScope) where
   alone-value s t r same = IfOk-weaker r _ _ (λ v h. h ∙ ap (value_of_named u scope) same)
 
   pub alone-refused : {A : Type 0} (place : Place) (s t : Term) (r : Result A (OrMemory UnfoldingFault)) → s ≡ t
-      → IfRefused r (IsFaultIn (IsAt place (HasNoValue (protocol_in u) (meant (scope_within u scope) s))))
-      → IfRefused r (IsFaultIn (IsAt place (HasNoValue (protocol_in u) (meant (scope_within u scope) t))))
-  alone-refused place s t r same = said-so (protocol_in u) place (meant (scope_within u scope) s) (meant (scope_within u scope) t) r (ap (meant (scope_within u scope)) same)
+      → IfRefused r (IsFaultIn (IsAt place (HasNoValue (protocol_in u) (meant (protocol_in u) (scope_within u scope) s))))
+      → IfRefused r (IsFaultIn (IsAt place (HasNoValue (protocol_in u) (meant (protocol_in u) (scope_within u scope) t))))
+  alone-refused place s t r same = said-so (protocol_in u) place (meant (protocol_in u) (scope_within u scope) s) (meant (protocol_in u) (scope_within u scope) t) r
+      (ap (meant (protocol_in u) (scope_within u scope)) same)
 
   pub plain-value : {E : Type 0} (t : Term) (r : Result Value E) → is_nameless t ≡ true → IfOk r (λ v. written_value (data_of (protocol_in u)) t ≡ Some v) → IfOk r (λ v. v ≡ value_of_named u scope t)
-  plain-value t r nameless = IfOk-weaker r _ _ (λ v h. nameless-value (data_of (protocol_in u)) (valuation u scope) t v nameless h)
+  plain-value t r nameless = IfOk-weaker r _ _ (λ v h. nameless-value (data_of (protocol_in u)) (functions_at_start (protocol_in u)) (valuation u scope) t v nameless h)
 
   pub plain-refused : {A : Type 0} (place : Place) (t : Term) (r : Result A (OrMemory UnfoldingFault)) → is_nameless t ≡ true
-      → IfRefused r (IsFaultIn (IsAt place (HasNoValue (protocol_in u) t))) → IfRefused r (IsFaultIn (IsAt place (HasNoValue (protocol_in u) (meant (scope_within u scope) t))))
-  plain-refused place t r nameless = said-so (protocol_in u) place t (meant (scope_within u scope) t) r (meant-nameless (scope_within u scope) t nameless)
+      → IfRefused r (IsFaultIn (IsAt place (HasNoValue (protocol_in u) t))) → IfRefused r (IsFaultIn (IsAt place (HasNoValue (protocol_in u) (meant (protocol_in u) (scope_within u scope) t))))
+  plain-refused place t r nameless = said-so (protocol_in u) place t (meant (protocol_in u) (scope_within u scope) t) r (meant-nameless (protocol_in u) (scope_within u scope) t nameless)
 
 -- a value, or the error
 pub refused-or : {A : Type 0} (o : Option A) (e : OrMemory UnfoldingFault) (r : Result A (OrMemory UnfoldingFault))

@@ -7,10 +7,11 @@ use Rattle.pb_text_meaning.specs.Erase.{erased_term, erased_variables}
 use Rattle.pb_protocol_folding.specs.Folding.{written_value}
 use Rattle.pb_protocol_folding.specs.Names.{enumerators_in}
 use Rattle.pb_protocol_tree.specs.Form.{StepValueForm, StepSetForm, FormulaForm, PropertyForm}
-use Rattle.pb_protocol_tree.specs.Form.{ProtocolForm}
+use Rattle.pb_protocol_tree.specs.Form.{DefinitionForm, ProtocolForm}
 use Rattle.pb_protocol_meaning.specs.Syntax.{Protocol}
 use Rattle.pb_protocol_meaning.specs.Erase.{erase, erased_formula}
 use Rattle.pb_protocol_meaning.specs.Steps.{data_of}
+use Rattle.pb_protocol_unfolding.specs.Hygiene.{definition_names}
 use Rattle.pb_protocol_unfolding.specs.PutIn.{TermScope, standing, term_of}
 use Rattle.pb_protocol_unfolding.specs.Unfolding.{Instance, all_elements, instance_name, instances, name_of}
 use Rattle.pb_protocol_unfolding.specs.Unfolding.{terms_of}
@@ -22,6 +23,7 @@ use Rattle.pb_protocol_unfolder_terms.specs.Large.{HaveManyTuples}
 use Rattle.pb_protocol_unfolder_terms.specs.TermFaults.{IsFaultInTerm, surroundings_of}
 use Rattle.pb_protocol_unfolder_steps.specs.StepFaults.{IsFaultAtStart, IsFaultInSteps, placed_instances}
 use Rattle.pb_protocol_unfolder_steps.specs.Refusals.{element_places, instance_places}
+use Rattle.pb_protocol_unfolder.specs.Defined.{stands_for}
 use Rattle.pb_protocol_unfolder.specs.declared.fault.UnfoldingFault.{UnfoldingFault}
 use Rattle.pb_protocol_unfolder.specs.declared.fault.UnfoldingRule.{UnfoldingRule}
 use Rattle.pb_protocol_unfolder.specs.declared.fault.UnfoldingRule.TheVariants as rule
@@ -43,12 +45,17 @@ abbrev pub IsElementClash : List Name → List Name → List Place → Place →
 IsElementClash enumerators names places p =
     IsRepeated names places p ⊎ IsTaken enumerators names places p
 
--- two elements or two steps with their values have one name, or an element has an enumerator's
+abbrev pub definition_places : ProtocolForm → List Place
+definition_places m = map (λ (d : DefinitionForm). d.name.place) m.definitions
+
+-- two elements or two steps with their values have one name, or an element or a definition has an
+-- enumerator's
 abbrev pub IsNameFault : ProtocolForm → Place → Type 0
 IsNameFault m p =
     IsElementClash (enumerators_in (erase m).sorts) (map name_of (all_elements (erase m)))
     (element_places m) p
-    ⊎ IsRepeated (map instance_name (instances (erase m))) (instance_places m) p
+    ⊎ (IsRepeated (map instance_name (instances (erase m))) (instance_places m) p
+    ⊎ IsTaken (enumerators_in (erase m).sorts) (definition_names (erase m)) (definition_places m) p)
 
 -- ---- limits
 
@@ -60,10 +67,11 @@ IsCountFault m p =
 
 -- ---- values in sets of steps
 
--- what a term in a set of steps says: what a quantifier's variable stands for, else itself
-abbrev pub meant : TermScope → Term → Term
-meant ρ (Term.Named x) = unwrap_or (term_of ρ x) (Term.Named x)
-meant ρ t = t
+-- what a term in a set of steps says: what a quantifier's variable stands for, or a definition,
+-- else itself
+abbrev pub meant : Protocol → TermScope → Term → Term
+meant m ρ (Term.Named x) = unwrap_or (term_of ρ x) (stands_for m.definitions x)
+meant m ρ t = t
 
 -- it isn't written as a truth value, a number of 32 bits or an enumerator
 abbrev pub HasNoValue : Protocol → Term → Type 0
@@ -76,7 +84,7 @@ HaveOneWithoutValue m ks = (k : Term) × Contains ks k × HasNoValue m k
 abbrev pub IsFaultOfValue : Protocol → TermScope → List Term → StepValueForm → Place → Type 0
 IsFaultOfValue m ρ own (StepValueForm.any_value q) p = ⊥
 IsFaultOfValue m ρ own (StepValueForm.given q x) p =
-    (p ≡ q) × (HasNoValue m (meant ρ (erased_term x)) ⊎ HaveOneWithoutValue m own)
+    (p ≡ q) × (HasNoValue m (meant m ρ (erased_term x)) ⊎ HaveOneWithoutValue m own)
 
 abbrev pub IsFaultOfValues :
     Protocol → TermScope → List Term → List StepValueForm → Place → Type 0

@@ -1,3 +1,4 @@
+pub mod Defined
 pub mod Apart
 pub mod Copies
 pub mod Faults

@@ -20,7 +20,8 @@ use Rattle.pb_protocol_unfolder.specs.declared.fault.UnfoldingFault.{UnfoldingFa
 use Rattle.pb_protocol_unfolder.specs.declared.fault.UnfoldingRule.{UnfoldingRule}
 use Rattle.pb_protocol_unfolder.specs.declared.fault.UnfoldingRule.TheVariants as rule
 use Rattle.pb_protocol_unfolder.specs.Faults.{IsElementClash, IsFaultOfFormula, IsFaultOfProperties}
-use Rattle.pb_protocol_unfolder.specs.Faults.{IsFaultOfSet, IsFaultOfSteps, IsRepeated, OfTerm}
+use Rattle.pb_protocol_unfolder.specs.Faults.{IsFaultOfSet, IsFaultOfSteps, IsRepeated, IsTaken}
+use Rattle.pb_protocol_unfolder.specs.Faults.{OfTerm}
 use Rattle.pb_protocol_unfolder.specs.Faults.{OfMany, OfToken, OfValue, rule_of}
 
 -- it is the fault of a value, and P holds of its place
@@ -77,6 +78,11 @@ IsFaultOfElements enumerators names places fault =
 
 abbrev pub IsFaultOfInstances : List Name → List Place → UnfoldingFault → Type 0
 IsFaultOfInstances names places fault = IsOfNames (IsRepeated names places) fault
+
+-- a definition has an enumerator's name
+abbrev pub IsFaultOfDefinitions : List Name → List Name → List Place → UnfoldingFault → Type 0
+IsFaultOfDefinitions enumerators names places fault =
+    IsOfNames (IsTaken enumerators names places) fault
 
 abbrev pub bound_term : Option Written → Option Term
 bound_term None = None

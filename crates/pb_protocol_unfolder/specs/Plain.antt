@@ -1,11 +1,13 @@
--- Protocols without arrays, definitions, values in sets of steps and quantifiers: flat models.
-use Rattle.std.specs.Prelude.{Bool, true, false, ◌&&◌, List, [], ◌∷◌, map}
+-- Protocols without arrays, definitions, values in sets of steps, quantifiers and counting: flat
+-- models.
+use Rattle.std.specs.Prelude.{Bool, true, false, not, ◌&&◌, List, [], ◌∷◌, map, Option, Some, None}
 use Rattle.std.specs.List.{list_all}
 use Rattle.pb_text_tree.specs.Form.{VariableForm, TermForm, ArgumentForms, no_arguments}
 use Rattle.pb_text_tree.specs.Form.{argument}
 use Rattle.pb_model_tree.specs.Form as flat
 use Rattle.pb_protocol_tree.specs.Form.{StepSetForm, FormulaForm}
-use Rattle.pb_protocol_tree.specs.Form.{StateVariableForm, AssignmentForm, StepForm}
+use Rattle.pb_text_counting.specs.Counting.{is_counting}
+use Rattle.pb_protocol_tree.specs.Form.{StateVariableForm, CopiesForm, AssignmentForm, StepForm}
 use Rattle.pb_protocol_tree.specs.Form.{DefinitionForm, PropertyForm, ProtocolForm}
 
 -- ---- a flat model as a protocol, word for word
@@ -15,6 +17,7 @@ plain_variable_form x = record { name = x.name; indices = []; sort = x.sort }
 
 abbrev pub plain_assignment_form : flat.AssignmentForm → AssignmentForm
 plain_assignment_form a = record {
+  copies = None;
   variable = a.variable;
   index = no_arguments;
   place = a.place;
@@ -113,7 +116,7 @@ flat_form m = record {
 
 -- ---- where nothing is left out
 
--- no quantifier stands in a term
+-- no quantifier stands in a term, so that nothing is counted either
 abbrev mutual
   pub is_plain_term : TermForm → Bool
   is_plain_term (TermForm.constant p b) = true
@@ -124,7 +127,7 @@ abbrev mutual
   is_plain_term (TermForm.connected c p x y) = is_plain_term x && is_plain_term y
   is_plain_term (TermForm.compared o p x y) = is_plain_term x && is_plain_term y
   is_plain_term (TermForm.computed o p x y) = is_plain_term x && is_plain_term y
-  is_plain_term (TermForm.application f xs) = are_plain_arguments xs
+  is_plain_term (TermForm.application f xs) = not (is_counting f.text) && are_plain_arguments xs
   is_plain_term (TermForm.quantified q p xs x) = false
 
   pub are_plain_arguments : ArgumentForms → Bool
@@ -139,12 +142,18 @@ abbrev pub has_no_arguments : ArgumentForms → Bool
 has_no_arguments no_arguments = true
 has_no_arguments (argument p x xs) = false
 
+-- no `forall` stands before an assignment
+abbrev pub has_no_copies : Option CopiesForm → Bool
+has_no_copies None = true
+has_no_copies (Some c) = false
+
 -- a variable of one value
 abbrev pub is_plain_variable : StateVariableForm → Bool
 is_plain_variable y = has_no_variables y.indices
 
 abbrev pub is_plain_assignment : AssignmentForm → Bool
-is_plain_assignment a = has_no_arguments a.index && is_plain_term a.value
+is_plain_assignment a =
+    has_no_copies a.copies && has_no_arguments a.index && is_plain_term a.value
 
 abbrev pub is_plain_step : StepForm → Bool
 is_plain_step a = is_plain_term a.guard && list_all is_plain_assignment a.assignments

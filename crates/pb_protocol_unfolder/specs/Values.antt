@@ -6,8 +6,8 @@ use Rattle.pb_text_meaning.specs.Syntax.{Term}
 use Rattle.pb_text_meaning.specs.Value.{Assignment, value}
 use Rattle.pb_protocol_tree.specs.Form.{StepSetForm}
 use Rattle.pb_protocol_meaning.specs.Erase.{erased_steps}
-use Rattle.pb_protocol_meaning.specs.Meaning.{meaning, no_functions}
-use Rattle.pb_protocol_meaning.specs.Steps.{data_of, fits}
+use Rattle.pb_protocol_meaning.specs.Meaning.{meaning}
+use Rattle.pb_protocol_meaning.specs.Steps.{data_of, fits, functions_at_start}
 use Rattle.pb_protocol_unfolding.specs.Unfolding.{Instance, is_in_set, valued, values_of}
 use Rattle.pb_protocol_unfolder_terms.specs.declared.scope.TermScope.{TermScope}
 use Rattle.pb_protocol_unfolder_steps.specs.declared.unfolder.Unfolder.{Unfolder}
@@ -19,7 +19,8 @@ valuation u scope = valued (data_of (protocol_in u)) [] (scope_within u scope)
 
 -- the value of a term in a set of steps
 abbrev pub value_of_named : Unfolder → TermScope → Term → Value
-value_of_named u scope x = meaning (data_of (protocol_in u)) no_functions (valuation u scope) x
+value_of_named u scope x =
+    meaning (data_of (protocol_in u)) (functions_at_start (protocol_in u)) (valuation u scope) x
 
 -- whether a value, as it is written, is the one that is named, if one is
 abbrev pub is_value : Unfolder → TermScope → Option Term → Term → Bool

@@ -14,8 +14,9 @@ use pb_text_tree::Place;
 /// Which rule fails where a protocol is unfolded, with the number that a user sees.
 #[derive(Clone, Copy, Debug, PartialEq, Eq)]
 pub enum UnfoldingRule {
-    /// T02: two elements, or two steps with their values, have one name, or an element has the name
-    /// of an enumerator. The place is that of the later state variable's or step's name.
+    /// T02: two elements, or two steps with their values, have one name, or an element or a
+    /// definition has the name of an enumerator. The place is that of the later state variable's or
+    /// step's name, or of the definition's.
     Names,
     /// T04: a value in a set of steps is neither a name, a number nor a truth value. The place is
     /// that of its first token.

@@ -6,6 +6,7 @@
 mod apart;
 mod bound;
 mod chain;
+mod defined;
 mod fault;
 mod formula;
 mod formulas;

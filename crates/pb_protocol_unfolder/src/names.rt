@@ -1,4 +1,5 @@
-//! The names of elements and of steps with their values, which are apart.
+//! The names of elements and of steps with their values, which are apart, and of definitions, none
+//! of which is an enumerator's.
 
 ghost use Rattle.std.specs.Prelude.{◌≡◌, map, IfOk, OnOk};
 ghost use Rattle.pb_base.specs.OrMemory.{IfRefused};
@@ -6,14 +7,17 @@ ghost use Rattle.pb_protocol_folding.specs.Names.{AreDistinct, AreNot, enumerato
 ghost use Rattle.pb_protocol_unfolding.specs.Unfolding as definitions;
 ghost use Rattle.pb_protocol_unfolder_steps.specs.Elements.{flat_element, instance_said};
 ghost use Rattle.pb_protocol_unfolder_steps.specs.Refusals.{element_place, instance_place};
-ghost use Rattle.pb_protocol_unfolder.specs.Apart.{declarations_said, name_bytes};
-ghost use Rattle.pb_protocol_unfolder.specs.Parts.{IsFaultOfElements, IsFaultOfInstances};
+ghost use Rattle.pb_protocol_unfolder.specs.Apart.{declarations_said, definition_bytes};
+ghost use Rattle.pb_protocol_unfolder.specs.Apart.{definition_place, name_bytes};
+ghost use Rattle.pb_protocol_unfolder.specs.Parts.{IsFaultOfDefinitions, IsFaultOfElements};
+ghost use Rattle.pb_protocol_unfolder.specs.Parts.{IsFaultOfInstances};
 
 use crate::apart::{first_repeated, first_taken};
 use crate::fault::{UnfoldingError, UnfoldingRule, refused};
+use pb_protocol_tree::Definition;
 use pb_protocol_unfolder_steps::{Element, Instance, instance_name};
 use pb_protocol_unfolder_terms::element_name;
-use pb_text_tree::{Name, SortDeclaration};
+use pb_text_tree::{Name, SortDeclaration, copy_name};
 use std::alloc::{AllocError, Global};
 
 /// The names of elements in a flat model.
@@ -36,6 +40,17 @@ fn instance_names(alloc: Global, instances: &[Instance<'_>]) -> Result<Vec<Name>
     let mut names = Vec::new(alloc);
     for instance in instances {
         names.push(instance_name(alloc, instance)?)?;
+    }
+    Ok(names)
+}
+
+/// The names of definitions.
+fn names_defined(alloc: Global, defined: &[Definition]) -> Result<Vec<Name>, AllocError>
+    ensures { IfOk result (λ v. map name_bytes v.items ≡ map definition_bytes defined.now) }
+{
+    let mut names = Vec::new(alloc);
+    for definition in defined {
+        names.push(copy_name(alloc, &definition.name)?)?;
     }
     Ok(names)
 }
@@ -83,6 +98,25 @@ pub(crate) fn check_instances(
     let repeated = first_repeated(alloc, &names)?;
     if let Some(index) = repeated {
         return Err(refused(UnfoldingRule::Names, instances[index].step.name.place));
+    }
+    Ok(())
+}
+
+/// Checks that no definition has an enumerator's name; else the first that has one is refused.
+pub(crate) fn check_definitions(
+    alloc: Global,
+    declarations: &[SortDeclaration],
+    defined: &[Definition],
+) -> Result<(), UnfoldingError>
+    ensures untaken { OnOk result (AreNot (enumerators_in (declarations_said declarations.now))
+        (map definition_bytes defined.now)) }
+    ensures refused { IfRefused result
+        (IsFaultOfDefinitions (enumerators_in (declarations_said declarations.now))
+        (map definition_bytes defined.now) (map definition_place defined.now)) }
+{
+    let names = names_defined(alloc, defined)?;
+    if let Some(index) = first_taken(declarations, &names) {
+        return Err(refused(UnfoldingRule::Names, defined[index].name.place));
     }
     Ok(())
 }

@@ -1,4 +1,4 @@
-//! Terms in which no quantifier stands.
+//! Terms in which no quantifier stands and nothing is counted.
 
 ghost use Rattle.std.specs.Prelude.{◌≡◌, map};
 ghost use Rattle.std.specs.List.{list_all};
@@ -6,6 +6,7 @@ ghost use Rattle.pb_text_tree.specs.Form.{argument_forms, term_form};
 ghost use Rattle.pb_protocol_unfolder.specs.Plain as plain;
 ghost use Rattle.pb_protocol_unfolder.specs.View.{operand_form, operation_form};
 
+use pb_text_counting::is_counting;
 use pb_text_tree::{Argument, ArithmeticLink, Term, TermLink};
 
 #[cycle(plain_terms)]
@@ -45,7 +46,7 @@ pub(crate) fn are_plain_arguments(arguments: &[Argument]) -> bool
     true
 }
 
-/// Whether no quantifier stands in a term.
+/// Whether no quantifier stands in a term, and nothing is counted.
 #[cycle(plain_terms)]
 pub(crate) fn is_plain_term(term: &Term) -> bool
     ensures { result ≡ plain.is_plain_term (term_form term.now) }
@@ -72,7 +73,15 @@ pub(crate) fn is_plain_term(term: &Term) -> bool
             }
             are_plain_operations(links)
         }
-        Term::Application { arguments, .. } => are_plain_arguments(arguments),
+        Term::Application {
+            function,
+            arguments,
+        } => {
+            if is_counting(function.text.as_str()) {
+                return false;
+            }
+            are_plain_arguments(arguments)
+        }
         Term::Quantified { .. } => false,
     }
 }

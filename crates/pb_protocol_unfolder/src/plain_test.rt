@@ -4,8 +4,8 @@
 ghost use Rattle.std.specs.Prelude.{◌≡◌, map, flat_map};
 ghost use Rattle.std.specs.List.{list_all};
 ghost use Rattle.pb_text_tree.specs.Form.{argument_forms, variable_forms};
-ghost use Rattle.pb_protocol_tree.specs.Form.{assignment_form, definition_form, formula_form};
-ghost use Rattle.pb_protocol_tree.specs.Form.{property_form, protocol_form};
+ghost use Rattle.pb_protocol_tree.specs.Form.{assignment_form, copies_said, definition_form};
+ghost use Rattle.pb_protocol_tree.specs.Form.{formula_form, property_form, protocol_form};
 ghost use Rattle.pb_protocol_tree.specs.Form.{state_variables_form, step_form, step_set_form};
 ghost use Rattle.pb_protocol_unfolder.specs.Plain as plain;
 ghost use Rattle.pb_protocol_unfolder.specs.View.{formula_operand, has_no_indices, is_plain_group};
@@ -13,13 +13,13 @@ ghost use Rattle.pb_protocol_unfolder.specs.View.{set_operand};
 
 use crate::plain_term::{are_plain_arguments, is_plain_term};
 use pb_protocol_tree::{
-    Assignment, Definition, Formula, Link, Property, Protocol, StateVariable, StateVariables, Step,
-    StepSet, StepSetLink,
+    Assignment, Copies, Definition, Formula, Link, Property, Protocol, StateVariable,
+    StateVariables, Step, StepSet, StepSetLink,
 };
 use pb_text_tree::{Argument, Variables};
 
 /// Whether no variable is declared.
-fn declares_none(groups: &[Variables]) -> bool
+pub(crate) fn declares_none(groups: &[Variables]) -> bool
     ensures { result ≡ plain.has_no_variables (variable_forms groups.now) }
 {
     for group in groups {
@@ -69,11 +69,23 @@ fn has_no_index(index: &[Argument]) -> bool
     index.is_empty()
 }
 
-/// Whether a plain variable is assigned a term without quantifiers.
+/// Whether no `forall` stands before an assignment.
+fn has_no_copies(copies: &Option<Copies>) -> bool
+    ensures { result ≡ plain.has_no_copies (copies_said copies.now) }
+{
+    match copies {
+        Some(_) => false,
+        None => true,
+    }
+}
+
+/// Whether a plain variable is assigned a term without quantifiers, and once.
 fn is_plain_assignment(assignment: &Assignment) -> bool
     ensures { result ≡ plain.is_plain_assignment (assignment_form assignment.now) }
 {
-    has_no_index(&assignment.index) && is_plain_term(&assignment.value.term)
+    has_no_copies(&assignment.copies)
+        && has_no_index(&assignment.index)
+        && is_plain_term(&assignment.value.term)
 }
 
 /// Whether plain variables are assigned terms without quantifiers.

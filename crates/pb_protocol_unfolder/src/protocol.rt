@@ -29,7 +29,7 @@ use crate::fault::{UnfoldingError, of_steps};
 use crate::formulas::Formulas;
 use crate::impossible::impossible_steps;
 use crate::left::left_instances;
-use crate::names::{check_elements, check_instances};
+use crate::names::{check_definitions, check_elements, check_instances};
 use crate::origin::{StepOrigin, step_origins, told_elements};
 use crate::property::unfold_properties;
 use pb_model_tree as flat;
@@ -143,6 +143,7 @@ pub fn unfold(alloc: Global, protocol: &Protocol) -> Result<Unfolded, UnfoldingE
     let instances = instances(alloc, protocol).map_err(of_steps)?;
     check_elements(alloc, &protocol.sorts, &elements)?;
     check_instances(alloc, &instances)?;
+    check_definitions(alloc, &protocol.sorts, &protocol.definitions)?;
     let unfolder = Unfolder::new(alloc, protocol, &elements)?;
     let UnfoldedSteps { steps, kept } = unfold_steps(&unfolder, &instances).map_err(of_steps)?;
     let left = left_instances(alloc, &instances, &kept)?;

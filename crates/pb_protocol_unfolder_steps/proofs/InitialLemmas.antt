@@ -16,8 +16,8 @@ use Rattle.pb_protocol_meaning.specs.Syntax.{StateVariable, Protocol}
 use Rattle.pb_protocol_meaning.specs.Erase.{protocol_of, erased_state_variable}
 use Rattle.pb_protocol_meaning.specs.Steps.{data_of}
 use Rattle.pb_protocol_unfolding.specs.Written.{written_tuples}
-use Rattle.pb_protocol_unfolding.specs.PutIn.{no_forms, put_in}
-use Rattle.pb_protocol_unfolding.specs.Unfolding.{Element, all_elements, elements_of, terms_of, unfolded_initial, written}
+use Rattle.pb_protocol_unfolding.specs.PutIn.{put_in}
+use Rattle.pb_protocol_unfolding.specs.Unfolding.{forms_at_start, Element, all_elements, elements_of, terms_of, unfolded_initial, written}
 use Rattle.pb_protocol_unfolder_steps.specs.Initial.{argument_term, indices_behind, indices_said, indices_of_state, term_at, terms_at, initial_terms_of}
 
 -- ---- terms
@@ -74,34 +74,35 @@ elements-counted p =
 
 fused : (m : Protocol) (is : List Variable) (x : Term) (kss : List (List Term))
     → map (term_at m is x) kss
-    ≡ map (folded (data_of m) false) (map (λ (ks : List Term). put_in (data_of m) no_forms (written is ks) x) kss)
+    ≡ map (folded (data_of m) false) (map (λ (ks : List Term). put_in (data_of m) (forms_at_start m) (written is ks) x) kss)
 fused m is x [] = refl
 fused m is x (ks ∷ kss) = ap (λ v. term_at m is x ks ∷ v) (fused m is x kss)
 
 values : (m : Protocol) (ys : List StateVariable) (xs : List Argument)
     → initial_terms_of m (map indices_in ys) (map argument_term xs)
-    ≡ map (folded (data_of m) false) (unfolded_initial (data_of m) ys (terms_of (map argument_term xs)))
+    ≡ map (folded (data_of m) false) (unfolded_initial (data_of m) (forms_at_start m) ys (terms_of (map argument_term xs)))
 values m [] xs = refl
 values m (y ∷ ys) [] = refl
 values m (y ∷ ys) (x ∷ xs) =
     let f = folded (data_of m) false in
-    let us = map (λ (ks : List Term). put_in (data_of m) no_forms (written y.indices ks) (argument_term x)) (written_tuples (data_of m) y.indices) in
+    let us = map (λ (ks : List Term). put_in (data_of m) (forms_at_start m) (written y.indices ks) (argument_term x)) (written_tuples (data_of m) y.indices) in
     ap (λ v. v ++ initial_terms_of m (map indices_in ys) (map argument_term xs)) (fused m y.indices (argument_term x) (written_tuples (data_of m) y.indices))
     ∙ ap (λ v. map f us ++ v) (values m ys xs)
-    ∙ sym (map-append f us (unfolded_initial (data_of m) ys (terms_of (map argument_term xs))))
+    ∙ sym (map-append f us (unfolded_initial (data_of m) (forms_at_start m) ys (terms_of (map argument_term xs))))
 
 -- the values that the code finds are those of the unfolded model, folded
 pub initial-said : (p : declared_protocol.Protocol) (ts : List Argument)
     → map argument_term ts ≡ initial_terms_of (protocol_of p) (indices_of_state p.state.items) (map argument_term p.initial.values.items)
-    → erased_arguments (argument_forms ts) ≡ folded_arguments (data_of (protocol_of p)) false (terms_of (unfolded_initial (data_of (protocol_of p)) (protocol_of p).variables (protocol_of p).initial))
+    → erased_arguments (argument_forms ts)
+    ≡ folded_arguments (data_of (protocol_of p)) false (terms_of (unfolded_initial (data_of (protocol_of p)) (forms_at_start (protocol_of p)) (protocol_of p).variables (protocol_of p).initial))
 initial-said p ts same =
     let m = protocol_of p in
     let xs = p.initial.values.items in
     sym (arguments-said ts) ∙ ap terms_of same
     ∙ ap (λ v. terms_of (initial_terms_of m v (map argument_term xs))) (of-state p.state.items)
     ∙ ap terms_of (values m m.variables xs)
-    ∙ folded-terms (data_of m) (unfolded_initial (data_of m) m.variables (terms_of (map argument_term xs)))
-    ∙ ap (λ v. folded_arguments (data_of m) false (terms_of (unfolded_initial (data_of m) m.variables v))) (arguments-said xs)
+    ∙ folded-terms (data_of m) (unfolded_initial (data_of m) (forms_at_start m) m.variables (terms_of (map argument_term xs)))
+    ∙ ap (λ v. folded_arguments (data_of m) false (terms_of (unfolded_initial (data_of m) (forms_at_start m) m.variables v))) (arguments-said xs)
 
 -- ---- the loop over variables and terms
 

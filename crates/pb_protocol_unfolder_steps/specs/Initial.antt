@@ -12,8 +12,8 @@ use Rattle.pb_protocol_tree.specs.declared.protocol.StateVariables as declared_s
 use Rattle.pb_protocol_meaning.specs.Syntax.{Protocol}
 use Rattle.pb_protocol_meaning.specs.Steps.{data_of}
 use Rattle.pb_protocol_unfolding.specs.Written.{written_tuples}
-use Rattle.pb_protocol_unfolding.specs.PutIn.{no_forms, put_in}
-use Rattle.pb_protocol_unfolding.specs.Unfolding.{written}
+use Rattle.pb_protocol_unfolding.specs.PutIn.{TermScope, put_in}
+use Rattle.pb_protocol_unfolding.specs.Unfolding.{forms_at_start, written}
 
 abbrev pub argument_term : declared_argument.Argument → Term
 argument_term a = term_of a.term
@@ -30,10 +30,13 @@ indices_of_group group = map indices_said group.variables.items
 abbrev pub indices_of_state : List declared_state.StateVariables → List (List Variable)
 indices_of_state state = flat_map indices_of_group state
 
--- a term at these values of indices, folded
+-- a term without state, where names stand for these terms, folded
+abbrev pub folded_at_start : Protocol → TermScope → Term → Term
+folded_at_start m ρ x = folded (data_of m) false (put_in (data_of m) (forms_at_start m) ρ x)
+
+-- at these values of indices
 abbrev pub term_at : Protocol → List Variable → Term → List Term → Term
-term_at m indices x ks =
-    folded (data_of m) false (put_in (data_of m) no_forms (written indices ks) x)
+term_at m indices x ks = folded_at_start m (written indices ks) x
 
 -- a term at each tuple of values of indices
 abbrev pub terms_at : Protocol → List Variable → Term → List Term

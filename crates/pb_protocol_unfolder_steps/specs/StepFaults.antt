@@ -20,8 +20,8 @@ use Rattle.pb_protocol_unfolding.specs.Written.{written_tuples}
 use Rattle.pb_protocol_unfolder_terms.specs.declared.scope.TermScope as declared_scope
 use Rattle.pb_protocol_unfolder_terms.specs.declared.fault.UnfoldFault.{UnfoldFault}
 use Rattle.pb_protocol_unfolder_terms.specs.declared.fault.UnfoldRule.{UnfoldRule}
-use Rattle.pb_protocol_unfolder_terms.specs.TermFaults.{HasValues, IsFaultAt, IsFaultInElement}
-use Rattle.pb_protocol_unfolder_terms.specs.TermFaults.{IsFaultInTerm}
+use Rattle.pb_protocol_unfolder_terms.specs.TermFaults.{HasValues, IsFaultAt, IsFaultInCopying}
+use Rattle.pb_protocol_unfolder_terms.specs.TermFaults.{IsFaultInElement, IsFaultInTerm}
 use Rattle.pb_protocol_unfolder_terms.specs.TermFaults.{surroundings_at_start, surroundings_of}
 use Rattle.pb_protocol_unfolder_terms.specs.Values.{tuple_of}
 use Rattle.pb_protocol_unfolder_steps.specs.declared.fault.StepsFault.{StepsFault}
@@ -64,12 +64,20 @@ IsFaultInElements m ρ assignments elements r p =
     (e : Element) × Contains elements e
     × IsFaultInElement (surroundings_of m) ρ assignments e r p
 
+-- where too many assignments are written out, or where it is unfolded what one of these elements is
+-- after them
+abbrev pub IsFaultInAssigned :
+    ProtocolForm → TermScope → List AssignmentForm → List Element → UnfoldRule → Place → Type 0
+IsFaultInAssigned m ρ assignments elements r p =
+    IsFaultInCopying (data_of (erase m)) assignments r p
+    ⊎ IsFaultInElements m ρ assignments elements r p
+
 -- in the guard or in the assignments, where the step's own variables stand for the values
 abbrev pub IsFaultInStep : ProtocolForm → PlacedInstance → UnfoldRule → Place → Type 0
 IsFaultInStep m i r p =
     let ρ = written (erased_variables i.step.variables) i.own in
     IsFaultInTerm (surroundings_of m) ρ i.step.guard r p
-    ⊎ IsFaultInElements m ρ i.step.assignments (all_elements (erase m)) r p
+    ⊎ IsFaultInAssigned m ρ i.step.assignments (all_elements (erase m)) r p
 
 abbrev pub IsFaultInSteps : ProtocolForm → List PlacedInstance → UnfoldRule → Place → Type 0
 IsFaultInSteps m instances r p =

@@ -12,7 +12,7 @@ pub record IsContextOf (m : ProtocolForm) (c : Context) : Type 0 where
   pub context : IsContext (erase m) c
   pub surroundings : surroundings_in c ≡ surroundings_of m
 
--- the terms of its initial state, which name no state variables and definitions
+-- the terms of its initial state, and values in sets of steps, which name no state variables
 pub record IsContextAtStart (m : ProtocolForm) (c : Context) : Type 0 where
   pub context : IsContext (without_state (erase m)) c
   pub surroundings : surroundings_in c ≡ surroundings_at_start m

@@ -188,6 +188,7 @@ pub fn initial_terms(alloc: Global, protocol: &Protocol) -> Result<Vec<Argument>
     ensures terms { IfOk result (λ v. erased_arguments (argument_forms v.items)
         ≡ folded_arguments (data_of (protocol_of protocol.now)) false
         (definitions.terms_of (definitions.unfolded_initial (data_of (protocol_of protocol.now))
+        (definitions.forms_at_start (protocol_of protocol.now))
         (protocol_of protocol.now).variables (protocol_of protocol.now).initial))) }
     ensures refused { IfRefused result (IsTermOr
         (MAX_OPERATORS < length (definitions.all_elements (protocol_of protocol.now)))
@@ -197,7 +198,7 @@ pub fn initial_terms(alloc: Global, protocol: &Protocol) -> Result<Vec<Argument>
     let initial = Initial {
         alloc,
         protocol,
-        context: Context::of_initial(alloc, protocol),
+        context: Context::at_start(alloc, protocol)?,
     };
     initial.values_of(&variables, &protocol.initial.values)
 }

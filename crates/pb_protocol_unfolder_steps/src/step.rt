@@ -15,7 +15,7 @@ ghost use Rattle.pb_protocol_unfolder_steps.specs.Steps.{places_from, step_found
 ghost use Rattle.pb_protocol_unfolder_steps.specs.Steps.{step_said};
 ghost use Rattle.pb_protocol_unfolder_steps.specs.Unfolder.{form_in, protocol_in, scope_within};
 
-use crate::assignment::{Assigning, unfold_assignments};
+use crate::assignment::unfold_all;
 use crate::fault::StepsError;
 use crate::instance::{Instance, instance_name};
 use crate::limits::MAX_WRITTEN_STEPS;
@@ -57,12 +57,7 @@ fn unfold_in_scope(
         drop(guard);
         return Ok(None);
     }
-    let assigning = Assigning {
-        scope,
-        assignments: &step.assignments,
-        place: step.name.place,
-    };
-    let assignments = unfold_assignments(unfolder, &assigning, unfolder.elements());
+    let assignments = unfold_all(unfolder, scope, &step.assignments, step.name.place);
     let (guard, assignments) = paired(guard, assignments)?;
     let Ok(name) = instance_name(unfolder.alloc(), instance) else {
         drop((guard, assignments));

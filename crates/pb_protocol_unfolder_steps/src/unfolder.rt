@@ -1,6 +1,6 @@
 //! Unfolds the terms of a protocol.
 
-ghost use Rattle.std.specs.Prelude.{◌≡◌, map, IfOk};
+ghost use Rattle.std.specs.Prelude.{◌≡◌, List, map, IfOk};
 ghost use Rattle.pb_text_tree.specs.Form.{term_form};
 ghost use Rattle.pb_protocol_tree.specs.Form.{assignment_form, protocol_form};
 ghost use Rattle.pb_base.specs.OrMemory.{IfRefused};
@@ -9,16 +9,21 @@ ghost use Rattle.pb_protocol_folding.specs.View.{term_of};
 ghost use Rattle.pb_protocol_meaning.specs.Steps.{data_of};
 ghost use Rattle.pb_protocol_unfolding.specs.Unfolding as definitions;
 ghost use Rattle.pb_protocol_unfolder_steps.specs.Elements.{flat_element};
-ghost use Rattle.pb_protocol_unfolder_terms.specs.TermFaults.{IsFaultInElement, IsFaultInTerm};
-ghost use Rattle.pb_protocol_unfolder_terms.specs.TermFaults.{surroundings_of};
+ghost use Rattle.pb_protocol_tree.specs.declared.step.Assignment as declared_assignment;
+ghost use Rattle.pb_protocol_unfolder_terms.specs.AssignmentCopies.{AreCopiesOf, AreSpreadsOf};
+ghost use Rattle.pb_protocol_unfolder_terms.specs.TermFaults.{IsFaultInCopying, IsFaultInElement};
+ghost use Rattle.pb_protocol_unfolder_terms.specs.TermFaults.{IsFaultInTerm, surroundings_of};
 ghost use Rattle.pb_protocol_unfolder_steps.specs.StepFaults.{OnTerm, WithValues};
 ghost use Rattle.pb_protocol_unfolder_steps.specs.Written.{AreElementsOf};
 
 use crate::element::Element;
 use crate::fault::{StepsError, of_term};
+use crate::sorts::sorts_of;
 use pb_protocol_tree::{Assignment, Protocol};
 use pb_protocol_unfolder_terms as terms;
-use pb_protocol_unfolder_terms::{Context, TermScope, unfold_assigned, unfold_term};
+use pb_protocol_unfolder_terms::{
+    AssignmentCopy, Context, Spread, TermScope, spread_assignments, unfold_assigned, unfold_term,
+};
 use pb_text_tree::Term;
 use std::alloc::{AllocError, Global};
 use std::marker::Model;
@@ -119,25 +124,47 @@ impl<'a, 'e> Unfolder<'a, 'e> {
         }
     }
 
-    /// What an element gets by assignments, folded.
+    /// Assignments, each for all values of its variables.
+    pub(crate) fn spread<'s>(
+        &self,
+        assignments: &'s [Assignment],
+    ) -> Result<Vec<Spread<'s>>, StepsError>
+    where
+        'a: 's,
+        ensures spreads { IfOk result (λ v. AreSpreadsOf (data_of (protocol_in self.now))
+            assignments.now v.items) }
+        ensures refused { IfRefused result (OnTerm (IsFaultInCopying
+            (data_of (protocol_in self.now)) (map assignment_form assignments.now))) }
+    {
+        match spread_assignments(self.alloc, sorts_of(self.protocol), assignments) {
+            Ok(spreads) => Ok(spreads),
+            Err(error) => Err(of_term(error)),
+        }
+    }
+
+    /// What an element gets by assignments, folded, of which these are all copies.
     pub(crate) fn unfold_assigned(
         &self,
         scope: &TermScope<'_>,
-        assignments: &[Assignment],
+        copies: &[AssignmentCopy<'_>],
         element: &Element<'_>,
     ) -> Result<Term, StepsError>
-        ensures term { IfOk result (λ t. term_of t ≡ element_assigned (protocol_in self.now)
-            (scope_within self.now scope.now) (protocol_assignments assignments.now)
+        ensures term { (assignments : List declared_assignment.Assignment)
+            → AreCopiesOf (data_of (protocol_in self.now)) assignments copies.now
+            → IfOk result (λ t. term_of t ≡ element_assigned (protocol_in self.now)
+            (scope_within self.now scope.now) (protocol_assignments assignments)
             (flat_element element.now)) }
-        ensures refused { IfRefused result (OnTerm (WithValues scope.now (IsFaultInElement
+        ensures refused { (assignments : List declared_assignment.Assignment)
+            → AreCopiesOf (data_of (protocol_in self.now)) assignments copies.now
+            → IfRefused result (OnTerm (WithValues scope.now (IsFaultInElement
             (surroundings_of (form_in self.now)) (scope_within self.now scope.now)
-            (map assignment_form assignments.now) (flat_element element.now)))) }
+            (map assignment_form assignments) (flat_element element.now)))) }
     {
         let element = terms::Element {
             array: element.name,
             index: &element.index,
         };
-        match unfold_assigned(&self.context, scope, assignments, &element) {
+        match unfold_assigned(&self.context, scope, copies, &element) {
             Ok(unfolded) => Ok(unfolded.term),
             Err(error) => Err(of_term(error)),
         }

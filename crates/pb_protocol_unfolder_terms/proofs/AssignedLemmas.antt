@@ -1,16 +1,16 @@
--- Arguments that are compared with written values, and assignments by the last of them.
+-- Arguments that are compared with written values, and copies of assignments by the last of them.
 use Rattle.std.proofs.Common.{◌≡◌, ℕ, suc, ◌<◌, ◌++◌, ◌==◌, Bool, true, false, if◌then◌else◌, List, [], ◌∷◌, map, drop, take, length, get_or, Some, None, refl, sym, ◌∙◌, ap, string_bytes, true≢false, not}
 use Rattle.std.proofs.Math.Dec.{eqb-suc-zero}
 use Rattle.std.specs.List.{slice_get}
 use Rattle.pb_text_tree.specs.declared.term.Argument.{Argument}
-use Rattle.pb_protocol_tree.specs.declared.step.Assignment as declared_assignment
 use Rattle.pb_text_meaning.specs.Syntax.{same_name, Operator, Term, Spec}
-use Rattle.pb_protocol_meaning.specs.Syntax.{Assignment}
 use Rattle.pb_protocol_folding.specs.View as tree
 use Rattle.pb_protocol_unfolding.specs.PutIn.{Forms, TermScope, all_put_in, choice, put_in}
-use Rattle.pb_protocol_unfolding.specs.Unfolding.{Element, is_index, name_of, term_after}
+use Rattle.pb_protocol_unfolding.specs.Unfolding.{Copy, Element, after_copies, is_index, name_of}
+use Rattle.pb_protocol_unfolder_terms.specs.declared.copies.AssignmentCopy.{AssignmentCopy}
 use Rattle.pb_protocol_unfolder_terms.specs.declared.written.Written.{Written}
-use Rattle.pb_protocol_unfolder_terms.specs.Assigned.{assignment_said, assignments_said}
+use Rattle.pb_protocol_unfolder_terms.specs.Assigned.{copies_of}
+use Rattle.pb_protocol_unfolder_terms.specs.AssignmentCopies.{copy_behind, copy_said, scope_in_copy}
 use Rattle.pb_protocol_unfolder_terms.specs.Values.{written_term}
 use Rattle.pb_protocol_unfolder_terms.proofs.ArgumentLemmas.{taken-more}
 use Rattle.pb_protocol_unfolder_terms.proofs.ReadLemmas.{none-not, not-none, some-is}
@@ -46,7 +46,7 @@ module _ (S : Spec) (forms : Forms) (ρ : TermScope) where
       ap (λ (d : Argument). compared_term (put_in S forms ρ (tree.term_of d.term)) (written_term v) (comparing given vs)) (some-is a b there)
       ∙ ap (λ (u : Written). compared_term (put_in S forms ρ (tree.term_of b.term)) (written_term u) (comparing given vs)) (some-is v w that)
 
--- ---- assignments
+-- ---- copies of assignments
 
 pub not-holds : (b : Bool) → not b ≡ true → b ≡ false
 not-holds true e = absurd (true≢false (sym e))
@@ -56,45 +56,42 @@ pub not-fails : (b : Bool) → not b ≡ false → b ≡ true
 not-fails true e = refl
 not-fails false e = absurd (true≢false e)
 
-said-more : (bs : List declared_assignment.Assignment) (a : declared_assignment.Assignment) → assignments_said (bs ++ (a ∷ [])) ≡ assignments_said bs ++ (assignment_said a ∷ [])
-said-more [] a = refl
-said-more (b ∷ bs) a = ap (λ xs. assignment_said b ∷ xs) (said-more bs a)
+said-more : (ρ : TermScope) (bs : List AssignmentCopy) (a : AssignmentCopy) → copies_of (bs ++ (a ∷ [])) ρ ≡ copies_of bs ρ ++ (copy_said ρ (copy_behind a) ∷ [])
+said-more ρ [] a = refl
+said-more ρ (b ∷ bs) a = ap (λ xs. copy_said ρ (copy_behind b) ∷ xs) (said-more ρ bs a)
 
 module _ (S : Spec) (forms : Forms) (ρ : TermScope) where
-  after-more : (xs : List Assignment) (a : Assignment) (e : Element) (x : Term)
-      → term_after S forms ρ (xs ++ (a ∷ [])) e x
-      ≡ (if same_name a.variable e.array then choice (is_index (all_put_in S forms ρ a.index) e.index) (put_in S forms ρ a.term) (term_after S forms ρ xs e x) else term_after S forms ρ xs e x)
-  after-more [] a e x = refl
-  after-more (b ∷ xs) a e x =
-      after-more xs a e (if same_name b.variable e.array then choice (is_index (all_put_in S forms ρ b.index) e.index) (put_in S forms ρ b.term) x else x)
+  -- what a copy makes of what an element is before, where it is to the element's array or not
+  abbrev made_by : Copy → Element → Bool → Term → Term
+  made_by c e here before = if here then choice (is_index (all_put_in S forms c.scope c.assignment.index) e.index) (put_in S forms c.scope c.assignment.term) before else before
 
-  -- what an element is after these assignments
-  abbrev pub after : List declared_assignment.Assignment → Element → Term
-  after bs e = term_after S forms ρ (assignments_said bs) e (Term.Named (name_of e))
+  after-more : (xs : List Copy) (c : Copy) (e : Element) (x : Term)
+      → after_copies S forms (xs ++ (c ∷ [])) e x ≡ made_by c e (same_name c.assignment.variable e.array) (after_copies S forms xs e x)
+  after-more [] c e x = refl
+  after-more (b ∷ xs) c e x = after-more xs c e (made_by b e (same_name b.assignment.variable e.array) x)
 
-  after-further : (bs : List declared_assignment.Assignment) (k : ℕ) (a : declared_assignment.Assignment) (e : Element) → k < length bs → a ≡ get_or bs k a
-      → (if same_name (string_bytes a.variable.text) e.array then choice
-      (is_index (all_put_in S forms ρ (tree.terms_of a.index.items)) e.index)
-      (put_in S forms ρ (tree.term_of a.value.term)) (after (take k bs) e) else after (take k bs) e)
-      ≡ after (take (suc k) bs) e
+  -- what an element is after these copies
+  abbrev pub after : List AssignmentCopy → Element → Term
+  after bs e = after_copies S forms (copies_of bs ρ) e (Term.Named (name_of e))
+
+  after-further : (bs : List AssignmentCopy) (k : ℕ) (a : AssignmentCopy) (e : Element) → k < length bs → a ≡ get_or bs k a
+      → made_by (copy_said ρ (copy_behind a)) e (same_name (string_bytes a.assignment.now.variable.text) e.array) (after (take k bs) e) ≡ after (take (suc k) bs) e
   after-further bs k a e within is =
-      sym (after-more (assignments_said (take k bs)) (assignment_said a) e (Term.Named (name_of e)))
-      ∙ ap (λ xs. term_after S forms ρ xs e (Term.Named (name_of e))) (sym (said-more (take k bs) a) ∙ ap assignments_said (sym (taken-more bs k a within is)))
+      sym (after-more (copies_of (take k bs) ρ) (copy_said ρ (copy_behind a)) e (Term.Named (name_of e)))
+      ∙ ap (λ xs. after_copies S forms xs e (Term.Named (name_of e))) (sym (said-more ρ (take k bs) a) ∙ ap (λ cs. copies_of cs ρ) (sym (taken-more bs k a within is)))
 
-  -- the assignment at a place is to the element's array
-  pub after-same : (bs : List declared_assignment.Assignment) (k : ℕ) (a : declared_assignment.Assignment) (e : Element)
-      → k < length bs → a ≡ get_or bs k a → same_name (string_bytes a.variable.text) e.array ≡ true
-      → after (take (suc k) bs) e ≡ choice (is_index (all_put_in S forms ρ (tree.terms_of a.index.items)) e.index) (put_in S forms ρ (tree.term_of a.value.term)) (after (take k bs) e)
+  -- the copy at a place is to the element's array
+  pub after-same : (bs : List AssignmentCopy) (k : ℕ) (a : AssignmentCopy) (e : Element)
+      → k < length bs → a ≡ get_or bs k a → same_name (string_bytes a.assignment.now.variable.text) e.array ≡ true
+      → after (take (suc k) bs) e
+      ≡ choice (is_index (all_put_in S forms (scope_in_copy ρ (copy_behind a)) (tree.terms_of a.assignment.now.index.items)) e.index)
+      (put_in S forms (scope_in_copy ρ (copy_behind a)) (tree.term_of a.assignment.now.value.term)) (after (take k bs) e)
   after-same bs k a e within is same =
-      sym (after-further bs k a e within is)
-      ∙ ap (λ (b : Bool). if b then choice (is_index (all_put_in S forms ρ (tree.terms_of a.index.items)) e.index)
-      (put_in S forms ρ (tree.term_of a.value.term)) (after (take k bs) e) else after (take k bs) e) same
+      sym (after-further bs k a e within is) ∙ ap (λ (b : Bool). made_by (copy_said ρ (copy_behind a)) e b (after (take k bs) e)) same
 
   -- to another one
-  pub after-other : (bs : List declared_assignment.Assignment) (k : ℕ) (a : declared_assignment.Assignment)
-      (e : Element) → k < length bs → a ≡ get_or bs k a → same_name (string_bytes a.variable.text) e.array ≡ false
+  pub after-other : (bs : List AssignmentCopy) (k : ℕ) (a : AssignmentCopy) (e : Element)
+      → k < length bs → a ≡ get_or bs k a → same_name (string_bytes a.assignment.now.variable.text) e.array ≡ false
       → after (take (suc k) bs) e ≡ after (take k bs) e
   after-other bs k a e within is other =
-      sym (after-further bs k a e within is)
-      ∙ ap (λ (b : Bool). if b then choice (is_index (all_put_in S forms ρ (tree.terms_of a.index.items)) e.index)
-      (put_in S forms ρ (tree.term_of a.value.term)) (after (take k bs) e) else after (take k bs) e) other
+      sym (after-further bs k a e within is) ∙ ap (λ (b : Bool). made_by (copy_said ρ (copy_behind a)) e b (after (take k bs) e)) other

@@ -10,13 +10,15 @@ use Rattle.pb_text_tree.specs.declared.term.Argument.{Argument}
 use Rattle.pb_text_tree.specs.declared.term.ArithmeticLink.{ArithmeticLink}
 use Rattle.pb_text_tree.specs.declared.term.Term as declared_term
 use Rattle.pb_text_tree.specs.declared.term.TermLink.{TermLink}
-use Rattle.pb_protocol_tree.specs.declared.step.Assignment.{Assignment}
 use Rattle.pb_protocol_tree.specs.Form.{assignment_form}
 use Rattle.pb_text_tree.specs.Form.{Named, TermForm, argument_forms, arithmetic_links, calculated, chained, named, term_form, term_links}
 use Rattle.pb_text_meaning.specs.Syntax.{Spec, Term}
 use Rattle.pb_protocol_unfolding.specs.PutIn.{TermScope}
 use Rattle.pb_protocol_unfolding.specs.Written.{written_values}
+use Rattle.pb_protocol_unfolder_terms.specs.Assigned.{placed_by, scope_around, scope_inside}
+use Rattle.pb_protocol_unfolder_terms.specs.AssignmentCopies.{CopyBehind, copy_behind, placed_copy}
 use Rattle.pb_protocol_unfolder_terms.specs.declared.context.Context.{Context}
+use Rattle.pb_protocol_unfolder_terms.specs.declared.copies.AssignmentCopy.{AssignmentCopy}
 use Rattle.pb_protocol_unfolder_terms.specs.declared.fault.UnfoldFault.{UnfoldFault}
 use Rattle.pb_protocol_unfolder_terms.specs.declared.fault.UnfoldRule.{UnfoldRule}
 use Rattle.pb_protocol_unfolder_terms.specs.declared.fault.UnfoldRule.TheVariants as rule
@@ -28,7 +30,7 @@ use Rattle.pb_protocol_unfolder_terms.specs.Deep.{IsDepthFault}
 use Rattle.pb_protocol_unfolder_terms.specs.Large.{HasManyValues, IsConnectiveAt, IsOperatorAt, IsTokenMet, IsTokenOf, IsValuesFault}
 use Rattle.pb_protocol_unfolder_terms.specs.Met.{Itself, Occurrence, Surroundings, at}
 use Rattle.pb_protocol_unfolder_terms.specs.Tells.{AreMetAt, IsFaultOf, IsMetAt, IsTermMet, IsTokenAt, Tells, scope_said, surroundings_in}
-use Rattle.pb_protocol_unfolder_terms.specs.TermFaults.{Breaks, IfFaultAt, IsFaultInAssignment, IsFaultInAssignments, WithMany}
+use Rattle.pb_protocol_unfolder_terms.specs.TermFaults.{Breaks, IfFaultAt, IsFaultInAssignment, IsFaultInCopies, PlacedCopy, WithMany}
 use Rattle.pb_protocol_unfolder_terms.specs.Unfolding.{OnOperators, Unfolds, operator_count}
 use Rattle.pb_protocol_unfolder_terms.specs.Values.{IsTooLong}
 use Rattle.pb_protocol_unfolder_terms.specs.View.{variable_of}
@@ -122,36 +124,63 @@ module _ (c : Context) (l n : ℕ) (ρ : TermScope) (whole : Occurrence) where
   first-argument [] a there h = absurd (not-none a there)
   first-argument (b ∷ given) a there h = h a (subst (Contains (b ∷ given)) (sym (some-is a b there)) (first-in b given))
 
--- ---- assignments
+-- ---- copies of assignments
 
--- a fault in one of the assignments, with all levels
-pub assigned-in : (m : Surroundings) (l n : ℕ) (ρ : TermScope) (bs : List Assignment) (a : Assignment) (r : UnfoldRule) (p : Place) → Contains bs a
-    → IsFaultInAssignment m l n ρ (assignment_form a) r p → IsFaultInAssignments m l n ρ (map assignment_form bs) r p
-assigned-in m l n ρ bs a r p there h =
-    let placed = mapped-in assignment_form bs a there in
-    (assignment_form a, placed, l, omega (arith, placed.1), h)
+-- a fault in one of the copies, with all levels
+pub copies-in : (m : Surroundings) (l n : ℕ) (k : Context) (s : declared_scope.TermScope) (bs : List AssignmentCopy) (a : AssignmentCopy) (r : UnfoldRule) (p : Place) → Contains bs a
+    → IsFaultInAssignment m l n (scope_inside k s a) (assignment_form a.assignment.now) r p → IsFaultInCopies m l n (placed_by k s bs) r p
+copies-in m l n k s bs a r p there h =
+    let placed = mapped-in (placed_copy (scope_around k s)) (map copy_behind bs) (copy_behind a) (mapped-in copy_behind bs a there) in
+    (placed_copy (scope_around k s) (copy_behind a), placed, l, omega (arith, placed.1), h)
+
+taken-behind : (j : ℕ) (bs : List AssignmentCopy) → map copy_behind (take j bs) ≡ take j (map copy_behind bs)
+taken-behind zero [] = refl
+taken-behind zero (b ∷ bs) = refl
+taken-behind (suc j) [] = refl
+taken-behind (suc j) (b ∷ bs) = ap (λ xs. copy_behind b ∷ xs) (taken-behind j bs)
 
 -- one in those before a place, which have a level less
-pub assigned-before : (m : Surroundings) (l n : ℕ) (ρ : TermScope) (k : ℕ) (bs : List Assignment) (r : UnfoldRule) (p : Place) → k < length bs
-    → IsFaultInAssignments m l n ρ (map assignment_form (take k bs)) r p → IsFaultInAssignments m (suc l) n ρ (map assignment_form bs) r p
-assigned-before m l n ρ k bs r p within (a, there, j, less, h) =
-    let before = taken-at assignment_form k bs a there in
-    (a, before.0, j, omega (arith, less, before.1, before.2, mapped-length assignment_form (take k bs), mapped-length assignment_form bs, taken-length k bs, within), h)
+pub copies-before : (m : Surroundings) (l n : ℕ) (k : Context) (s : declared_scope.TermScope) (j : ℕ) (bs : List AssignmentCopy) (r : UnfoldRule) (p : Place) → j < length bs
+    → IsFaultInCopies m l n (placed_by k s (take j bs)) r p → IsFaultInCopies m (suc l) n (placed_by k s bs) r p
+copies-before m l n k s j bs r p within fault = from (subst (λ (cs : List CopyBehind). IsFaultInCopies m l n (map g cs) r p) (taken-behind j bs) fault)
+  where
+    g : CopyBehind → PlacedCopy
+    g = placed_copy (scope_around k s)
+
+    from : IsFaultInCopies m l n (map g (take j (map copy_behind bs))) r p → IsFaultInCopies m (suc l) n (map g (map copy_behind bs)) r p
+    from (c, there, i, less, h) =
+        let before = taken-at g j (map copy_behind bs) c there in (
+          c,
+          before.0,
+          i,
+          omega (
+            arith,
+            less,
+            before.1,
+            before.2,
+            mapped-length g (take j (map copy_behind bs)),
+            mapped-length g (map copy_behind bs),
+            mapped-length copy_behind bs,
+            taken-length j (map copy_behind bs),
+            within,
+          ),
+          h,
+        )
 
 -- a fault at the token of what is assigned to
-pub assigned-room : (m : Surroundings) (l n : ℕ) (ρ : TermScope) (bs : List Assignment) (a : Assignment)
-    (r : UnfoldRule) (e : OrMemory UnfoldFault) → e ≡ Refused (record { rule = r; place = a.variable.place })
-    → Contains bs a → ((w : Occurrence) → IsTokenMet m w a.variable.place → Breaks m w r a.variable.place)
-    → IfFaultAt (IsFaultInAssignments m l n ρ (map assignment_form bs)) e
-assigned-room m l n ρ bs a r e is there breaks =
-    let w = at (suc l) n ρ (TermForm.application (named a.variable) (argument_forms a.index.items)) in
-    subst (IfFaultAt (IsFaultInAssignments m l n ρ (map assignment_form bs))) (sym is)
-    (assigned-in m l n ρ bs a r a.variable.place there (inl (breaks w (w, Itself, inl refl))))
+pub copies-room : (m : Surroundings) (l n : ℕ) (k : Context) (s : declared_scope.TermScope) (bs : List AssignmentCopy) (a : AssignmentCopy)
+    (r : UnfoldRule) (e : OrMemory UnfoldFault) → e ≡ Refused (record { rule = r; place = a.assignment.now.variable.place })
+    → Contains bs a → ((w : Occurrence) → IsTokenMet m w a.assignment.now.variable.place → Breaks m w r a.assignment.now.variable.place)
+    → IfFaultAt (IsFaultInCopies m l n (placed_by k s bs)) e
+copies-room m l n k s bs a r e is there breaks =
+    let w = at (suc l) n (scope_inside k s a) (TermForm.application (named a.assignment.now.variable) (argument_forms a.assignment.now.index.items)) in
+    subst (IfFaultAt (IsFaultInCopies m l n (placed_by k s bs))) (sym is)
+    (copies-in m l n k s bs a r a.assignment.now.variable.place there (inl (breaks w (w, Itself, inl refl))))
 
 -- no level is left to choose it
-pub assigned-deep : (m : Surroundings) (l n : ℕ) (ρ : TermScope) (bs : List Assignment) (a : Assignment)
-    (e : OrMemory UnfoldFault) → e ≡ Refused (record { rule = rule.Depth; place = a.variable.place })
-    → Contains bs a → l ≡ 0 → IfFaultAt (IsFaultInAssignments m l n ρ (map assignment_form bs)) e
-assigned-deep m l n ρ bs a e is there none =
-    subst (IfFaultAt (IsFaultInAssignments m l n ρ (map assignment_form bs))) (sym is)
-    (assigned-in m l n ρ bs a rule.Depth a.variable.place there (inr (inr (none, refl, refl))))
+pub copies-deep : (m : Surroundings) (l n : ℕ) (k : Context) (s : declared_scope.TermScope) (bs : List AssignmentCopy) (a : AssignmentCopy)
+    (e : OrMemory UnfoldFault) → e ≡ Refused (record { rule = rule.Depth; place = a.assignment.now.variable.place })
+    → Contains bs a → l ≡ 0 → IfFaultAt (IsFaultInCopies m l n (placed_by k s bs)) e
+copies-deep m l n k s bs a e is there none =
+    subst (IfFaultAt (IsFaultInCopies m l n (placed_by k s bs))) (sym is)
+    (copies-in m l n k s bs a rule.Depth a.assignment.now.variable.place there (inr (inr (none, refl, refl))))

@@ -26,7 +26,11 @@ pub mod CalculationLemmas
 pub mod ChoosingLemmas
 pub mod ComparedLemmas
 pub mod ConditionalLemmas
+pub mod CopiedLemmas
 pub mod CopyLemmas
 pub mod CountLemmas
 pub mod GivenLemmas
 pub mod MeantLemmas
+pub mod QuantifierLemmas
+pub mod SpreadLemmas
+pub mod SumLemmas

@@ -1,5 +1,5 @@
 -- A name that means a definition or a state variable: what is put in for it, and what of it is met.
-use Rattle.std.proofs.Common.{◌≡◌, ◌<◌, ℕ, suc, List, [], map, length, Option, Some, None, inl, inr, refl, sym, ◌∙◌, ap, subst}
+use Rattle.std.proofs.Common.{◌≡◌, ◌<◌, ℕ, suc, Bool, false, if◌then◌else◌, List, [], map, length, Option, Some, None, inl, inr, refl, sym, ◌∙◌, ap, subst}
 use Rattle.std.specs.Borrow.{Bor}
 use Rattle.std.specs.List.{slice_get}
 use Rattle.std.specs.Prelude.{Result, option_map, string_bytes}
@@ -9,9 +9,10 @@ use Rattle.pb_text_tree.specs.declared.place.Place.{Place}
 use Rattle.pb_text_tree.specs.declared.term.Argument.{Argument}
 use Rattle.pb_text_tree.specs.declared.term.Term as declared_term
 use Rattle.pb_text_tree.specs.Form.{Named, TermForm, argument_forms, term_form}
-use Rattle.pb_text_meaning.specs.Syntax.{Name, Term, Terms}
+use Rattle.pb_text_meaning.specs.Syntax.{Name, Spec, Term, Terms}
+use Rattle.pb_text_counting.specs.Counting.{is_counting}
 use Rattle.pb_protocol_folding.specs.View as tree
-use Rattle.pb_protocol_unfolding.specs.PutIn.{TermScope, applied_term, named_term, put_in, read, standing, term_of}
+use Rattle.pb_protocol_unfolding.specs.PutIn.{Forms, TermScope, all_put_in, applied_term, count_put_in, given_arguments, named_term, put_in, read, standing, term_of}
 use Rattle.pb_protocol_unfolder_terms.specs.declared.context.Context.{Context}
 use Rattle.pb_protocol_unfolder_terms.specs.declared.context.Definition.{Definition}
 use Rattle.pb_protocol_unfolder_terms.specs.declared.meant.Meant.{Meant}
@@ -35,25 +36,39 @@ use Rattle.pb_protocol_unfolder_terms.proofs.GivenLemmas.{given_by}
 use Rattle.pb_protocol_unfolder_terms.proofs.MetLemmas.{arguments-met, mapped-in}
 use Rattle.pb_protocol_unfolder_terms.proofs.UnfoldLemmas.{standing-none}
 
+-- a name that doesn't count is applied
+pub applied-said : (S : Spec) (forms : Forms) (ρ : TermScope) (f : Name) (xs : Terms) → is_counting f ≡ false
+    → applied_term (given_arguments forms f (all_put_in S forms ρ xs)) f (all_put_in S forms ρ xs) ≡ put_in S forms ρ (Term.Apply f xs)
+applied-said S forms ρ f xs other =
+    ap (λ (b : Bool). if b then count_put_in S forms ρ xs else applied_term (given_arguments forms f (all_put_in S forms ρ xs)) f (all_put_in S forms ρ xs)) (sym other)
+
+-- without arguments it is a function of data
+pub bare-applied : (S : Spec) (forms : Forms) (ρ : TermScope) (f : Name) (given : List Argument) → is_counting f ≡ false → given ≡ []
+    → Term.Apply f (all_put_in S forms ρ (tree.terms_of given)) ≡ put_in S forms ρ (Term.Apply f (tree.terms_of given))
+bare-applied S forms ρ f given other none =
+    ap (λ (ds : List Argument). Term.Apply f (all_put_in S forms ρ (tree.terms_of ds))) none
+    ∙ applied-said S forms ρ f Terms.NoTerms other ∙ ap (λ (ds : List Argument). put_in S forms ρ (Term.Apply f (tree.terms_of ds))) (sym none)
+
 -- a name with arguments is what it means
 pub meant-unfolded : (k : Context) (v : Level) (s : declared_scope.TermScope) (f : Name) (given : List Argument) (m : Meant) (r : Result Unfolded (OrMemory UnfoldFault)) {shown : Name}
-    → 0 < length given → shown ≡ f → ((ts : Terms) → terms_count ts ≡ length given → forms_in k v.definitions shown ts ≡ meant_term k m ts)
+    → is_counting f ≡ false → 0 < length given → shown ≡ f → ((ts : Terms) → terms_count ts ≡ length given → forms_in k v.definitions shown ts ≡ meant_term k m ts)
     → Unfolds (folding_in k) v.truth v.room (applied_term (meant_term k m (given_by k v s given)) f (given_by k v s given)) r
     → Unfolds (folding_in k) v.truth v.room (put k v.definitions s (Term.Apply f (tree.terms_of given))) r
-meant-unfolded k v s f given m r some shows meant =
+meant-unfolded k v s f given m r other some shows meant h =
     let ρ = scope_of (spec_in k) (forms_in k) s in
-    subst (λ (o : Option Term). Unfolds (folding_in k) v.truth v.room (applied_term o f (given_by k v s given)) r)
+    subst (λ (z : Term). Unfolds (folding_in k) v.truth v.room z r) (applied-said (spec_in k) (forms_in k v.definitions) ρ f (tree.terms_of given) other)
+    (subst (λ (o : Option Term). Unfolds (folding_in k) v.truth v.room (applied_term o f (given_by k v s given)) r)
     (sym (meant (given_by k v s given) (arguments-counted (spec_in k) (forms_in k v.definitions) ρ given))
-    ∙ ap (λ (x : Name). forms_in k v.definitions x (given_by k v s given)) shows ∙ given-there (spec_in k) (forms_in k v.definitions) ρ f given some)
+    ∙ ap (λ (x : Name). forms_in k v.definitions x (given_by k v s given)) shows ∙ given-there (spec_in k) (forms_in k v.definitions) ρ f given some) h)
 
 -- a definition, with the arguments for its parameters
 pub definition-unfolded : (k : Context) (v : Level) (s : declared_scope.TermScope) (f : Name) (given : List Argument) (d : Bor Definition) (before : ℕ) (r : Result Unfolded (OrMemory UnfoldFault))
-    {shown : Name} {vs : List Variable} → 0 < length given → shown ≡ f
+    {shown : Name} {vs : List Variable} → is_counting f ≡ false → 0 < length given → shown ≡ f
     → ((ts : Terms) → terms_count ts ≡ length given → forms_in k v.definitions shown ts ≡ meant_term k (meant.Definition d before) ts) → vs ≡ d.now.parameters.items
     → Unfolds (folding_in k) v.truth v.room (put_in (spec_in k) (forms_in k before) (standing (map variable_of vs) (given_by k v s given) []) (tree.term_of d.now.term.now)) r
     → Unfolds (folding_in k) v.truth v.room (put k v.definitions s (Term.Apply f (tree.terms_of given))) r
-definition-unfolded k v s f given d before r some shows means parameters h =
-    meant-unfolded k v s f given (meant.Definition d before) r some shows means
+definition-unfolded k v s f given d before r other some shows means parameters h =
+    meant-unfolded k v s f given (meant.Definition d before) r other some shows means
     (subst (λ (vs : List Variable). Unfolds (folding_in k) v.truth v.room
     (put_in (spec_in k) (forms_in k before) (standing (map variable_of vs) (given_by k v s given) []) (tree.term_of d.now.term.now)) r) parameters h)
 
@@ -69,12 +84,12 @@ bare-definition-unfolded k v d before r {x = x} shows means =
 
 -- a state variable, with the arguments for its indices
 pub variable-unfolded : (k : Context) (v : Level) (s : declared_scope.TermScope) (f : Name) (given : List Argument) (y : Bor StateVariable) (r : Result Unfolded (OrMemory UnfoldFault))
-    {shown text : Name} {is : List Variable} → 0 < length given → shown ≡ f
+    {shown text : Name} {is : List Variable} → is_counting f ≡ false → 0 < length given → shown ≡ f
     → ((ts : Terms) → terms_count ts ≡ length given → forms_in k v.definitions shown ts ≡ meant_term k (meant.Variable y) ts) → text ≡ string_bytes y.now.name.now.text → is ≡ y.now.indices.items
     → Unfolds (folding_in k) v.truth v.room (read (spec_in k) text (map variable_of is) (given_by k v s given)) r
     → Unfolds (folding_in k) v.truth v.room (put k v.definitions s (Term.Apply f (tree.terms_of given))) r
-variable-unfolded k v s f given y r {text = text} some shows means named indices h =
-    meant-unfolded k v s f given (meant.Variable y) r some shows means
+variable-unfolded k v s f given y r {text = text} other some shows means named indices h =
+    meant-unfolded k v s f given (meant.Variable y) r other some shows means
     (subst (λ (x : Name). Unfolds (folding_in k) v.truth v.room (read (spec_in k) x (map variable_of y.now.indices.items) (given_by k v s given)) r) named
     (subst (λ (js : List Variable). Unfolds (folding_in k) v.truth v.room (read (spec_in k) text (map variable_of js) (given_by k v s given)) r) indices h))
 

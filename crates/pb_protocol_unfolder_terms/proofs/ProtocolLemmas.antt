@@ -51,12 +51,13 @@ same-surroundings p c is terms =
     ∙ ap (made (data_of (erase p)) (erase p).variables (erase p).definitions) terms
 
 -- and at the start without the state
-pub same-at-start : (p : ProtocolForm) (c : Context) → IsContext (without_state (erase p)) c → c.definitions.items ≡ [] → surroundings_in c ≡ surroundings_at_start p
-same-at-start p c is none =
+pub same-at-start : (p : ProtocolForm) (c : Context) → IsContext (without_state (erase p)) c → map placed_term c.definitions.items ≡ map term_of_definition p.definitions
+    → surroundings_in c ≡ surroundings_at_start p
+same-at-start p c is terms =
     ap (λ S. made S (surroundings_in c).variables (surroundings_in c).definitions (surroundings_in c).terms) (same-spec (without_state (erase p)) c is)
     ∙ ap (λ ys. made (data_of (erase p)) ys (surroundings_in c).definitions (surroundings_in c).terms) is.variables
     ∙ ap (λ ds. made (data_of (erase p)) [] ds (surroundings_in c).terms) is.definitions
-    ∙ ap (λ ds. made (data_of (erase p)) [] [] (map placed_term ds)) none
+    ∙ ap (made (data_of (erase p)) [] (erase p).definitions) terms
 
 abbrev forms-by : Spec → List StateVariable → List Definition → ℕ → Forms
 forms-by S ys ds n = with_definitions S (reads S ys) (take n ds)

@@ -102,9 +102,9 @@ pub record IsContext (m : Protocol) (c : declared_context.Context) : Type 0 wher
   pub variables : map state_variable_of c.variables.items ≡ m.variables
   pub definitions : map definition_of c.definitions.items ≡ m.definitions
 
--- a protocol without state variables and definitions, whose initial state they may not name
+-- a protocol without state variables, which its initial state may not name
 abbrev pub without_state : Protocol → Protocol
-without_state m = record m { variables = []; definitions = [] }
+without_state m = record m { variables = [] }
 
 -- what names become by the first n definitions of a protocol
 abbrev pub forms_by : Protocol → ℕ → Forms

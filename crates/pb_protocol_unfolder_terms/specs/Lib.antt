@@ -10,6 +10,7 @@ pub mod Puts
 pub mod Copies
 pub mod Counts
 pub mod Deep
+pub mod AssignmentCopies
 pub mod Assigned
 pub mod Behind
 pub mod Bounds
@@ -18,3 +19,4 @@ pub mod Met
 pub mod Large
 pub mod Tells
 pub mod TermFaults
+pub mod Counted

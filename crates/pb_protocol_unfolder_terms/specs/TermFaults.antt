@@ -1,15 +1,19 @@
 -- What the fault of a protocol's term, or of a step's assignments, says.
-use Rattle.std.specs.Prelude.{◌≡◌, ◌⊎◌, ◌<◌, ◌≤◌, ◌+◌, ℕ, suc, List, [], map, length, Contains}
+use Rattle.std.specs.Prelude.{◌≡◌, ◌⊎◌, ◌<◌, ◌≤◌, ◌+◌, ℕ, suc, List, [], map, flat_map, length}
+use Rattle.std.specs.Prelude.{take, Contains, Option, Some, None}
+use Rattle.std.specs.List.{slice_get}
 use Rattle.pb_base.specs.OrMemory.{IfFault}
 use Rattle.pb_base.specs.declared.or_memory.OrMemory.{OrMemory}
 use Rattle.pb_base.specs.declared.limits.TheConstants.{MAX_OPERATORS}
 use Rattle.pb_text_tree.specs.declared.place.Place.{Place}
 use Rattle.pb_text_tree.specs.Form.{TermForm}
-use Rattle.pb_protocol_tree.specs.Form.{AssignmentForm, DefinitionForm, ProtocolForm}
-use Rattle.pb_text_meaning.specs.Syntax.{Term}
+use Rattle.pb_protocol_tree.specs.Form.{CopiesForm, AssignmentForm, DefinitionForm, ProtocolForm}
+use Rattle.pb_protocol_tree.specs.Form.{copied_variables}
+use Rattle.pb_text_meaning.specs.Syntax.{Term, Spec}
+use Rattle.pb_text_meaning.specs.Erase.{erased_variables}
 use Rattle.pb_protocol_meaning.specs.Erase.{erase, erased_assignment}
 use Rattle.pb_protocol_meaning.specs.Steps.{data_of}
-use Rattle.pb_protocol_unfolding.specs.PutIn.{TermScope}
+use Rattle.pb_protocol_unfolding.specs.PutIn.{TermScope, copies}
 use Rattle.pb_protocol_unfolding.specs.Unfolding.{Element, name_of, term_after}
 use Rattle.pb_protocol_unfolder_terms.specs.declared.fault.UnfoldFault.{UnfoldFault}
 use Rattle.pb_protocol_unfolder_terms.specs.declared.fault.UnfoldRule.{UnfoldRule}
@@ -37,10 +41,14 @@ surroundings_of m = record {
   terms = map term_of_definition m.definitions;
 }
 
--- and those of its initial state, which may name no state variable and no definition
+-- and those of its initial state, which may name no state variable
 abbrev pub surroundings_at_start : ProtocolForm → Surroundings
-surroundings_at_start m =
-    record { spec = data_of (erase m); variables = []; definitions = []; terms = [] }
+surroundings_at_start m = record {
+  spec = data_of (erase m);
+  variables = [];
+  definitions = (erase m).definitions;
+  terms = map term_of_definition m.definitions;
+}
 
 -- names stand for values alone, and not for the arguments of a definition
 abbrev pub HasValues : declared_scope.TermScope → Type 0
@@ -89,12 +97,38 @@ IsFaultInAssignment m l n ρ a r p =
     ⊎ Breaks m (at l n ρ a.value) r p
     ⊎ ((l ≡ 0) × (r ≡ rule.Depth) × (p ≡ a.variable.place))
 
+-- an assignment, with what names stand for in it
+pub record PlacedCopy : Type 0 where
+  pub scope : TermScope
+  pub assignment : AssignmentForm
+
+-- one for each tuple of values of its variables, in order
+abbrev pub placed_copies_of : Spec → TermScope → AssignmentForm → List PlacedCopy
+placed_copies_of spec ρ a =
+    copies spec (erased_variables (copied_variables a.copies))
+    (λ σ. record { scope = σ; assignment = a }) ρ
+
+abbrev pub placed_copies : Spec → TermScope → List AssignmentForm → List PlacedCopy
+placed_copies spec ρ assignments = flat_map (placed_copies_of spec ρ) assignments
+
 -- in one of them, which has a level less than all for each at most of those behind it
-abbrev pub IsFaultInAssignments :
-    Surroundings → ℕ → ℕ → TermScope → List AssignmentForm → UnfoldRule → Place → Type 0
-IsFaultInAssignments m levels n ρ assignments r p =
-    (a : AssignmentForm) × (there : Contains assignments a) × (l : ℕ)
-    × (levels + suc there.0 ≤ l + length assignments) × IsFaultInAssignment m l n ρ a r p
+abbrev pub IsFaultInCopies :
+    Surroundings → ℕ → ℕ → List PlacedCopy → UnfoldRule → Place → Type 0
+IsFaultInCopies m levels n all r p =
+    (c : PlacedCopy) × (there : Contains all c) × (l : ℕ)
+    × (levels + suc there.0 ≤ l + length all) × IsFaultInAssignment m l n c.scope c.assignment r p
+
+-- where assignments are written out: at `forall`, else at what is assigned
+abbrev pub copies_place : AssignmentForm → Option CopiesForm → Place
+copies_place a None = a.variable.place
+copies_place a (Some c) = c.place
+
+-- up to one of these assignments there are more than 8,192, for all values of their variables
+abbrev pub IsFaultInCopying : Spec → List AssignmentForm → UnfoldRule → Place → Type 0
+IsFaultInCopying spec assignments r p =
+    (k : ℕ) × (a : AssignmentForm) × (slice_get assignments k ≡ Some a) × (r ≡ rule.Values)
+    × (p ≡ copies_place a a.copies)
+    × (MAX_OPERATORS < length (placed_copies spec [] (take (suc k) assignments)))
 
 -- what an element is after them, unfolded, has more than 8,192 operators
 abbrev pub HasManyAssigned :
@@ -109,4 +143,4 @@ abbrev pub IsFaultInElement :
 IsFaultInElement m ρ assignments e =
     let n = length m.definitions in
     WithMany (HasManyAssigned m n ρ assignments e)
-    (IsFaultInAssignments m MAX_LEVELS n ρ assignments)
+    (IsFaultInCopies m MAX_LEVELS n (placed_copies m.spec ρ assignments))

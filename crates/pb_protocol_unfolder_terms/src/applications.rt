@@ -1,4 +1,5 @@
-//! Unfolds names with arguments, definitions, arrays and functions of data, and arithmetic.
+//! Unfolds names with arguments, definitions, arrays and functions of data, counting, and
+//! arithmetic.
 
 ghost use Rattle.std.specs.Prelude.{◌≡◌, ◌<◌, suc, true, length, string_bytes};
 ghost use Rattle.pb_text_tree.specs.Form.{TermForm, argument_forms, arithmetic_links};
@@ -16,6 +17,7 @@ use crate::arguments::{UnfoldedArguments, function_term, is_choice, no_arguments
 use crate::arithmetic::calculation;
 use crate::array::{Array, choice, chosen};
 use crate::context::Context;
+use crate::counting::unfold_count;
 use crate::fault::UnfoldError;
 use crate::level::{Level, behind_one};
 use crate::meant::Meant;
@@ -26,6 +28,7 @@ use crate::scope::TermScope;
 use crate::unfold::unfold;
 use crate::unfolded::Unfolded;
 use pb_protocol_folding::truth_value;
+use pb_text_counting::is_counting;
 use pb_text_tree::{Argument, ArithmeticLink, Name, Term, copy_name};
 
 /// Arguments, of the first of which the truth alone may count.
@@ -159,6 +162,9 @@ pub(crate) fn unfold_application<'a>(
         level.definitions scope.now
         (TermForm.application (named function.now) (argument_forms arguments.now))) }
 {
+    if is_counting(function.text.as_str()) {
+        return unfold_count(context, scope, level, function.place, arguments);
+    }
     if arguments.is_empty() {
         return unfold_function(context, scope, level, function, arguments);
     }

@@ -1,23 +1,31 @@
 //! Unfolds what an element of an array gets by assignments.
 
 ghost use Rattle.std.specs.Prelude.{◌≡◌, ◌≤◌, ◌↔◌, ◌+◌, suc, false, true, length, drop, map, IfOk, IsTrue};
-ghost use Rattle.std.specs.Prelude.{IfErr, string_bytes};
+ghost use Rattle.std.specs.Prelude.{IfErr, List, string_bytes};
 ghost use Rattle.pb_protocol_tree.specs.Form.{assignment_form};
 ghost use Rattle.std.specs.Prelude.{MatchResult};
 ghost use Rattle.pb_protocol_folding.specs.Folding.{folded};
 ghost use Rattle.pb_protocol_folding.specs.View.{term_of};
+ghost use Rattle.pb_protocol_folding.specs.View as tree;
 ghost use Rattle.pb_text_meaning.specs.Syntax as syntax;
 ghost use Rattle.pb_protocol_meaning.specs.Syntax as protocol;
 ghost use Rattle.pb_protocol_meaning.specs.Steps.{data_of};
+ghost use Rattle.pb_protocol_unfolding.specs.PutIn.{put_in};
 ghost use Rattle.pb_protocol_unfolding.specs.Unfolding as spec;
-ghost use Rattle.pb_protocol_unfolder_terms.specs.Assigned.{after_by, assignments_said, compared_by};
-ghost use Rattle.pb_protocol_unfolder_terms.specs.Assigned.{IsLatest, element_said};
+ghost use Rattle.pb_protocol_tree.specs.declared.step.Assignment as declared_assignment;
+ghost use Rattle.pb_protocol_unfolder_terms.specs.declared.context.Context as declared_context;
+ghost use Rattle.pb_protocol_unfolder_terms.specs.AssignmentCopies.{AreCopiesOf, assignments_said};
+ghost use Rattle.pb_protocol_unfolder_terms.specs.AssignmentCopies.{copy_behind, scope_in_copy};
+ghost use Rattle.pb_protocol_unfolder_terms.specs.Assigned.{after_by, compared_by, condition_by};
+ghost use Rattle.pb_protocol_unfolder_terms.specs.Assigned.{IsLatest, element_said, placed_by};
+ghost use Rattle.pb_protocol_unfolder_terms.specs.Assigned.{scope_around, scope_inside};
 ghost use Rattle.pb_protocol_unfolder_terms.specs.Behind.{IsBehind};
 ghost use Rattle.pb_protocol_unfolder_terms.specs.Contexts.{IsContext, IsSeenInside, folding_in};
-ghost use Rattle.pb_protocol_unfolder_terms.specs.Contexts.{scope_in};
+ghost use Rattle.pb_protocol_unfolder_terms.specs.Contexts.{forms_in, scope_in, spec_in};
 ghost use Rattle.pb_protocol_unfolder_terms.specs.Met.{Surroundings};
-ghost use Rattle.pb_protocol_unfolder_terms.specs.TermFaults.{HasValues, IfFaultAt, IsFaultInAssignments};
-ghost use Rattle.pb_protocol_unfolder_terms.specs.TermFaults.{IsFaultInElement, scope_by};
+ghost use Rattle.pb_protocol_unfolder_terms.specs.TermFaults.{HasValues, IfFaultAt, IsFaultInAssignment};
+ghost use Rattle.pb_protocol_unfolder_terms.specs.TermFaults.{IsFaultInCopies, IsFaultInElement};
+ghost use Rattle.pb_protocol_unfolder_terms.specs.TermFaults.{scope_by};
 ghost use Rattle.pb_protocol_unfolder_terms.specs.Tells.{AreIndices, AreIndicesMet, Tells, scope_said};
 ghost use Rattle.pb_protocol_unfolder_terms.specs.Tells.{surroundings_in};
 ghost use Rattle.pb_protocol_unfolder_terms.specs.Unfolding.{IsRefusal, IsUnfolded, Unfolds};
@@ -26,6 +34,7 @@ ghost use Rattle.pb_protocol_unfolder_terms.specs.Unfolding.{operator_count};
 use crate::array::{choice, choosing, chosen, equality};
 use crate::bounds::is_within;
 use crate::context::Context;
+use crate::copies::AssignmentCopy;
 use crate::element::element_name;
 use crate::fault::{UnfoldError, UnfoldRule};
 use crate::form::Form;
@@ -62,7 +71,8 @@ pub(crate) struct Compared<'a> {
     pub indices: &'a [Variable<'a>],
 }
 
-/// What an element gets by the last of the assignments that isn't seen to be to another one.
+/// What an element gets by the last of the copies of assignments that isn't seen to be to another
+/// one.
 #[derive(Drop)]
 pub(crate) enum Latest {
     /// There is none, and this is what the element is.
@@ -166,7 +176,7 @@ fn compared_with<'a>(
 ) -> Compared<'a>
     ensures arguments { result.arguments.now ≡ assignment.now.index.items }
     ensures index { result.index.now ≡ element.entry.index.now }
-    ensures indices { AreIndices context.now (string_bytes element.entry.array.now.text)
+    ensures indices { AreIndices context.now (string_bytes assignment.now.variable.text)
         result.indices.now }
     ensures place { result.place ≡ assignment.now.variable.place }
 {
@@ -174,7 +184,11 @@ fn compared_with<'a>(
         place: assignment.variable.place,
         arguments: &assignment.index,
         index: element.index,
-        indices: indices_of(context, element.array.text.as_str(), element.index.len()),
+        indices: indices_of(
+            context,
+            assignment.variable.text.as_str(),
+            element.index.len(),
+        ),
     }
 }
 
@@ -265,37 +279,70 @@ fn room_behind(unfolded: Unfolded) -> u32
     room
 }
 
-/// The last of the assignments that isn't seen to be to another element.
+/// What names stand for in a copy of an assignment.
+fn inside<'a>(copy: AssignmentCopy<'a>, scope: &'a TermScope<'a>) -> TermScope<'a>
+    ensures scope { (c : declared_context.Context) → scope_around c result
+        ≡ scope_in_copy (scope_around c scope.now) (copy_behind copy.entry) }
+    ensures values { HasValues scope.now → HasValues result }
+{
+    TermScope::Values {
+        variables: copy.variables,
+        values: copy.values,
+        outer: scope,
+    }
+}
+
+/// Whether a copy's index is the element's, where its truth alone counts.
+fn unfold_condition<'a>(
+    context: &'a Context<'a>,
+    scope: &'a TermScope<'a>,
+    level: Level,
+    copy: AssignmentCopy<'a>,
+    element: Element<'a>,
+) -> Result<Unfolded, UnfoldError>
+    ensures term { (sort : syntax.Name) → Unfolds (folding_in context.now) true level.room
+        (condition_by context.now level.definitions scope.now copy.entry
+        (element_said element.entry sort)) result }
+    ensures faults { HasValues scope.now → IfErr result
+        (IfFaultAt (IsFaultInAssignment (surroundings_in context.now) level.depth
+        level.definitions (scope_inside context.now scope.now copy.entry)
+        (assignment_form copy.entry.assignment.now))) }
+{
+    let inner = inside(copy, scope);
+    let compared = compared_with(context, copy.assignment, element);
+    unfold_compared(&*context, &inner, level, compared)
+}
+
+/// The last of the copies that isn't seen to be to another element.
 fn last_assignment<'a>(
     context: &'a Context<'a>,
     scope: &'a TermScope<'a>,
     level: Level,
-    assignments: &'a [Assignment],
+    copies: &'a [AssignmentCopy<'a>],
     element: Element<'a>,
 ) -> Result<Latest, UnfoldError>
     ensures latest { (sort : syntax.Name) → MatchResult result
-        (IsLatest context.now level.definitions level.room scope.now assignments.now
+        (IsLatest context.now level.definitions level.room scope.now copies.now
         (element_said element.entry sort))
-        (IsRefusal level.room (after_by context.now level.definitions scope.now assignments.now
+        (IsRefusal level.room (after_by context.now level.definitions scope.now copies.now
         (element_said element.entry sort))) }
     ensures faults { HasValues scope.now → IfErr result
-        (IfFaultAt (IsFaultInAssignments (surroundings_in context.now) level.depth
-        level.definitions (scope_said context.now scope.now)
-        (map assignment_form assignments.now))) }
+        (IfFaultAt (IsFaultInCopies (surroundings_in context.now) level.depth level.definitions
+        (placed_by context.now scope.now copies.now))) }
 {
     let mut room = level.room;
     let mut passed = false;
-    for place in (0..assignments.len()).rev() {
-        let assignment = &assignments[place];
-        if assignment.variable.text.as_str() != element.array.text.as_str() {
+    for place in (0..copies.len()).rev() {
+        let copy = copies[place];
+        let variable = &copy.assignment.variable;
+        if variable.text.as_str() != element.array.text.as_str() {
             continue;
         }
         let inner = Level {
-            room: behind_one(room, assignment.variable.place)?,
+            room: behind_one(room, variable.place)?,
             ..level
         };
-        let compared = compared_with(context, assignment, element);
-        let condition = unfold_compared(context, scope, inner, compared)?;
+        let condition = unfold_condition(context, scope, inner, copy, element)?;
         if !decides(Connective::And, &condition.term) {
             return Ok(Latest::Assigned { place, condition });
         }
@@ -306,27 +353,47 @@ fn last_assignment<'a>(
     Ok(Latest::Unassigned(passed_over(passed, unfolded)))
 }
 
-/// What an element is after assignments, of which the last to it counts.
+/// The term of a copy, with its names' terms put in.
+fn unfold_value<'a>(
+    context: &'a Context<'a>,
+    scope: &'a TermScope<'a>,
+    level: Level,
+    copy: AssignmentCopy<'a>,
+) -> Result<Unfolded, UnfoldError>
+    ensures term { Unfolds (folding_in context.now) level.truth level.room
+        (put_in (spec_in context.now) (forms_in context.now level.definitions)
+        (scope_inside context.now scope.now copy.entry)
+        (tree.term_of copy.entry.assignment.now.value.term)) result }
+    ensures faults { HasValues scope.now → IfErr result
+        (IfFaultAt (IsFaultInAssignment (surroundings_in context.now) level.depth
+        level.definitions (scope_inside context.now scope.now copy.entry)
+        (assignment_form copy.entry.assignment.now))) }
+{
+    let inner = inside(copy, scope);
+    unfold(&*context, &inner, level, &copy.assignment.value.term)
+}
+
+/// What an element is after copies of assignments, of which the last to it counts.
 fn unfold_after<'a>(
     context: &'a Context<'a>,
     scope: &'a TermScope<'a>,
     level: Level,
-    assignments: &'a [Assignment],
+    copies: &'a [AssignmentCopy<'a>],
     element: Element<'a>,
 ) -> Result<Unfolded, UnfoldError>
     ensures term { (sort : syntax.Name) → Unfolds (folding_in context.now) false level.room
-        (after_by context.now level.definitions scope.now assignments.now
+        (after_by context.now level.definitions scope.now copies.now
         (element_said element.entry sort)) result }
     ensures faults { HasValues scope.now → IfErr result
-        (IfFaultAt (IsFaultInAssignments (surroundings_in context.now) level.depth
-        level.definitions (scope_said context.now scope.now)
-        (map assignment_form assignments.now))) }
+        (IfFaultAt (IsFaultInCopies (surroundings_in context.now) level.depth level.definitions
+        (placed_by context.now scope.now copies.now))) }
 {
-    let latest = last_assignment(context, scope, level, assignments, element)?;
+    let latest = last_assignment(context, scope, level, copies, element)?;
     match latest {
         Latest::Unassigned(unfolded) => Ok(unfolded),
         Latest::Assigned { place, condition } => {
-            let assignment = &assignments[place];
+            let copy = copies[place];
+            let assigned_at = copy.assignment.variable.place;
             let inner = Level {
                 truth: false,
                 room: condition.room,
@@ -334,24 +401,24 @@ fn unfold_after<'a>(
             };
             if let Some(true) = truth_value(&condition.term) {
                 drop(condition);
-                return Ok(chosen(unfold(context, scope, inner, &assignment.value.term)?));
+                return Ok(chosen(unfold_value(context, scope, inner, copy)?));
             }
-            let Ok(name) = choosing(context.alloc, assignment.variable.place) else {
+            let Ok(name) = choosing(context.alloc, assigned_at) else {
                 drop(condition);
                 return Err(UnfoldError::Memory);
             };
             let Some(depth) = level.depth.checked_sub(1) else {
                 drop(condition);
-                return Err(refused(UnfoldRule::Depth, assignment.variable.place));
+                return Err(refused(UnfoldRule::Depth, assigned_at));
             };
-            let left = unfold(context, scope, inner, &assignment.value.term);
+            let left = unfold_value(context, scope, inner, copy);
             let (condition, left) = paired(condition.term, left)?;
             let inner = Level {
                 room: left.room,
                 depth,
                 ..inner
             };
-            let right = unfold_after(context, scope, inner, &assignments[..place], element);
+            let right = unfold_after(context, scope, inner, &copies[..place], element);
             let ((condition, left), right) = paired((condition, left), right)?;
             Ok(choice(&context.folding(), name, condition, left, right)?)
         }
@@ -362,16 +429,15 @@ fn unfold_after<'a>(
 fn unfold_assigned_by<'a>(
     context: &'a Context<'a>,
     scope: &'a TermScope<'a>,
-    assignments: &'a [Assignment],
+    copies: &'a [AssignmentCopy<'a>],
     element: Element<'a>,
 ) -> Result<Unfolded, UnfoldError>
     ensures term { (sort : syntax.Name) → Unfolds (folding_in context.now) false MAX_OPERATORS
-        (after_by context.now (length context.now.definitions.items) scope.now assignments.now
+        (after_by context.now (length context.now.definitions.items) scope.now copies.now
         (element_said element.entry sort)) result }
     ensures faults { HasValues scope.now → IfErr result
-        (IfFaultAt (IsFaultInAssignments (surroundings_in context.now) MAX_LEVELS
-        (length context.now.definitions.items) (scope_said context.now scope.now)
-        (map assignment_form assignments.now))) }
+        (IfFaultAt (IsFaultInCopies (surroundings_in context.now) MAX_LEVELS
+        (length context.now.definitions.items) (placed_by context.now scope.now copies.now))) }
 {
     let level = Level {
         truth: false,
@@ -379,11 +445,11 @@ fn unfold_assigned_by<'a>(
         room: MAX_OPERATORS as u32,
         depth: MAX_LEVELS,
     };
-    unfold_after(context, scope, level, assignments, element)
+    unfold_after(context, scope, level, copies, element)
 }
 
-/// What an element of an array gets by assignments, folded. Of several to it the last counts, and
-/// without one it stays what it is.
+/// What an element of an array gets by assignments, folded, of which these are all copies. Of
+/// several to it the last counts, and without one it stays what it is.
 ///
 /// # Errors
 /// There would be more than 8,192 operators, terms nest too deep, more than 8,192 values are
@@ -391,15 +457,19 @@ fn unfold_assigned_by<'a>(
 pub fn unfold_assigned<'a>(
     context: &'a Context<'a>,
     scope: &'a TermScope<'a>,
-    assignments: &'a [Assignment],
+    copies: &'a [AssignmentCopy<'a>],
     element: &'a Element<'a>,
 ) -> Result<Unfolded, UnfoldError>
-    ensures term { (m : protocol.Protocol) (sort : syntax.Name) → IsContext m context.now
+    ensures term { (m : protocol.Protocol) (sort : syntax.Name)
+        (assignments : List declared_assignment.Assignment) → IsContext m context.now
+        → AreCopiesOf (data_of m) assignments copies.now
         → Unfolds (data_of m) false MAX_OPERATORS (spec.unfolded_assignment m (scope_in m scope.now)
-        (assignments_said assignments.now) (element_said element.now sort)).term result }
-    ensures faults { (m : Surroundings) (sort : syntax.Name) → surroundings_in context.now ≡ m
+        (assignments_said assignments) (element_said element.now sort)).term result }
+    ensures faults { (m : Surroundings) (sort : syntax.Name)
+        (assignments : List declared_assignment.Assignment) → surroundings_in context.now ≡ m
+        → AreCopiesOf m.spec assignments copies.now
         → HasValues scope.now → IfErr result (IfFaultAt (IsFaultInElement m (scope_by m scope.now)
-        (map assignment_form assignments.now) (element_said element.now sort))) }
+        (map assignment_form assignments) (element_said element.now sort))) }
 {
-    unfold_assigned_by(context, scope, assignments, *element)
+    unfold_assigned_by(context, scope, copies, *element)
 }

@@ -10,6 +10,8 @@ mod assigned;
 mod bounds;
 mod connectives;
 mod context;
+mod copies;
+mod counting;
 mod element;
 mod enumerator;
 mod fault;
@@ -32,6 +34,7 @@ mod written;
 
 pub use assigned::{Element, unfold_assigned};
 pub use context::Context;
+pub use copies::{AssignmentCopy, Spread, all_copies, spread_assignments};
 pub use element::element_name;
 pub use fault::{UnfoldError, UnfoldFault, UnfoldRule};
 pub use pair::paired;

@@ -15,7 +15,6 @@ use crate::meant::definition_counts;
 use crate::variables::variables_of;
 use pb_protocol_tree as tree;
 use std::alloc::{AllocError, Global};
-use std::collections::HashMap;
 
 fn push_group<'a>(
     alloc: Global,
@@ -95,19 +94,25 @@ impl<'a> Context<'a> {
         })
     }
 
-    /// What terms of the initial state are unfolded by: no state variable and no definition.
-    pub fn of_initial(alloc: Global, protocol: &'a tree::Protocol) -> Context<'a>
-        ensures context { IsContext (without_state (protocol_of protocol.now)) result }
-        ensures surroundings { surroundings_in result
-            ≡ surroundings_at_start (protocol_form protocol.now) }
+    /// What terms of the initial state are unfolded by, and values in sets of steps: definitions,
+    /// and no state variable.
+    ///
+    /// # Errors
+    /// Memory was refused.
+    pub fn at_start(alloc: Global, protocol: &'a tree::Protocol) -> Result<Context<'a>, AllocError>
+        ensures context { IfOk result (IsContext (without_state (protocol_of protocol.now))) }
+        ensures surroundings { IfOk result
+            (λ c. surroundings_in c ≡ surroundings_at_start (protocol_form protocol.now)) }
     {
-        Context {
+        let definitions = definitions(alloc, &protocol.definitions)?;
+        let counts = definition_counts(alloc, &definitions)?;
+        Ok(Context {
             alloc,
             declarations: &protocol.sorts,
             ranges: &protocol.ranges,
             variables: Vec::new(alloc),
-            definitions: Vec::new(alloc),
-            counts: HashMap::new(alloc),
-        }
+            definitions,
+            counts,
+        })
     }
 }

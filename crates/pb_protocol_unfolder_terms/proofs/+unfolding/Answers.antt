@@ -1,9 +1,9 @@
-use Rattle.std.proofs.Common.{◌≡◌, ◌∙◌, suc, true, false, List, [], Some, map, sym, ap, subst, refl, drop, string_bytes, length, arith, ◌<◌, vec_len, ℕ, inl, inr}
+use Rattle.std.proofs.Common.{◌≡◌, ◌∙◌, suc, Bool, true, false, List, [], Some, map, sym, ap, subst, refl, drop, string_bytes, length, get_or, arith, ◌<◌, vec_len, ℕ, inl, inr}
 use Rattle.std.proofs.lemmas.Bool.Decides.{nat_tests}
 use Rattle.pb_protocol_unfolder_terms.specs.declared.array.Choices.{Choices}
 use Rattle.pb_text_tree.specs.declared.place.Place.{Place}
 use Rattle.pb_text_meaning.specs.Syntax.{Name, Operator, Term, Terms}
-use Rattle.pb_text_meaning.specs.Erase.{erased_term}
+use Rattle.pb_text_meaning.specs.Erase.{erased_term, erased_variables}
 use Rattle.pb_protocol_unfolder_terms.specs.Chains.{HasLinks, deciding, operands_of, outcome}
 use Rattle.pb_protocol_unfolder_terms.proofs.ChainLemmas.{arithmetic-links, chain-links, err-kept, chain-is, chain-means, application-is, application-means}
 use Rattle.pb_protocol_folding.specs.View as tree
@@ -14,7 +14,7 @@ use Rattle.pb_protocol_unfolder_terms.specs.Contexts.{forms_in, folding_in, spec
 use Rattle.pb_protocol_unfolder_terms.specs.Unfolding.{IsRefusal, IsUnfolded, Unfolds}
 use Rattle.pb_protocol_unfolder_terms.specs.Values.{written_term, tuple_of}
 use Rattle.pb_protocol_unfolder_terms.proofs.UnfoldLemmas.{comparison-means, comparison-refused, comparison-unfolded, function-unfolded, name-unfolded, operator-unfolded, value-unfolded}
-use Rattle.pb_text_tree.specs.Form.{Named, variable_forms, TermForm, chained, named, term_form, term_links}
+use Rattle.pb_text_tree.specs.Form.{Named, argument_forms, variable_forms, TermForm, chained, named, term_form, term_links}
 use Rattle.pb_text_meaning.specs.Functions.{named_function}
 use Rattle.pb_protocol_folding.specs.Folding.{is_if}
 use Rattle.pb_protocol_folding.specs.Kept.{truth_counts}
@@ -37,10 +37,14 @@ use Rattle.pb_protocol_unfolder_terms.proofs.ChoosingLemmas.{IsChoosing, choosin
 use Rattle.pb_protocol_unfolder_terms.proofs.CalculationLemmas.{first-operand-refused, first-calculated, operator-without-room, operand-refused, further-calculated, all-calculated}
 use Rattle.pb_protocol_unfolder_terms.proofs.CopyLemmas.{AreAllCopies, IsCopyLeft, copies-form, copy-left, tuples-written, copied-said, none-said, copies-met, copy-met}
 use Rattle.pb_protocol_unfolder_terms.specs.declared.meant.Meant.TheVariants as meant
-use Rattle.pb_protocol_unfolder_terms.proofs.MeantLemmas.{applied-definition-met, applied-variable-met, argument-term-met, bare-definition-met, bare-definition-unfolded, definition-unfolded, meant-unfolded, variable-unfolded}
+use Rattle.pb_protocol_unfolder_terms.proofs.MeantLemmas.{applied-definition-met, bare-applied, applied-variable-met, argument-term-met, bare-definition-met, bare-definition-unfolded, definition-unfolded, meant-unfolded, variable-unfolded}
 use Rattle.pb_protocol_unfolder_terms.proofs.GivenLemmas.{none-unfolded, next-argument-refused, next-argument-unfolded, all-unfolded}
+use Rattle.pb_protocol_unfolder_terms.proofs.SumLemmas.{all-summed, count-said, counted-at-met, counting-deep, counting-none, counting-other, counting-quantified, counting-quantifier-met}
+use Rattle.pb_protocol_unfolder_terms.proofs.SumLemmas.{first-one-refused, first-summed, next-one-refused, further-summed, none-counted, one-refused, one-unfolded, one-without-room, quantified-counted, sum-without-room, tuple-there}
+use Rattle.std.specs.Cmp.Lexicographic.{same_text}
+use Rattle.pb_text_counting.specs.Counting.{counting, is_counting}
 use Rattle.pb_protocol_unfolder_terms.proofs.+unfolding.Goals as goal
-use Rattle.pb_protocol_unfolder_terms.proofs.+unfolding.Goals.{applications::unfold_choice-After-truth_value, connectives::unfold_copies-After-behind_one, connectives::unfold_operands-After-behind_one, connectives::unfold_operands-After-truth_counts-truth, connectives::unfold_quantified-After-unfold_copies, reads::unfold_choices-After-truth_value}
+use Rattle.pb_protocol_unfolder_terms.proofs.+unfolding.Goals.{applications::unfold_choice-After-truth_value, connectives::unfold_copies-After-behind_one, connectives::unfold_operands-After-behind_one, connectives::unfold_operands-After-truth_counts-truth, connectives::unfold_quantified-After-unfold_copies, counting::unfold_counted-After-unfold_sum, reads::unfold_choices-After-truth_value}
 
 pub unfold::unfold_opened-returns-in_ok-negation-in-Not-clause-term : goal.unfold::unfold_opened-returns-in_ok-negation-in-Not-clause-term
 unfold::unfold_opened-returns-in_ok-negation-in-Not-clause-term t c =
@@ -93,7 +97,8 @@ unfold::unfold_opened-returns-in_err-left-in-Comparison-2-clause-term t c =
 pub applications::unfold_application-returns-in-Definition-clause-term : goal.applications::unfold_application-returns-in-Definition-clause-term
 applications::unfold_application-returns-in-Definition-clause-term t c =
     definition-unfolded c.args.context.now c.args.level c.args.scope.now (string_bytes c.args.function.now.text) c.args.arguments.now c.in-Definition.definition c.in-Definition.before c.unfold.result
-    (grind (arith, nat_tests)) c.as_str.ensures.value c.in-Definition.ensures.meant c.deref.ensures.value c.unfold.ensures.term
+    (ap is_counting (sym c.as_str.ensures.value) ∙ sym c.is_counting.ensures ∙ c.if-is_counting.false)
+    (grind (arith, nat_tests)) c.as_str-2.ensures.value c.in-Definition.ensures.meant c.deref.ensures.value c.unfold.ensures.term
 
 pub unfold::unfold_opened-returns-in-Application-clause-term : goal.unfold::unfold_opened-returns-in-Application-clause-term
 unfold::unfold_opened-returns-in-Application-clause-term t c =
@@ -211,13 +216,15 @@ connectives::unfold_quantified-returns-in_err-operands-clause-term t c =
 pub applications::unfold_application-returns-in_ok-name-in-Variable-clause-term : goal.applications::unfold_application-returns-in_ok-name-in-Variable-clause-term
 applications::unfold_application-returns-in_ok-name-in-Variable-clause-term t c =
     variable-unfolded c.args.context.now c.args.level c.args.scope.now (string_bytes c.args.function.now.text) c.args.arguments.now c.in-Variable.variable c.unfold_read.result
-    (grind (arith, nat_tests)) c.as_str.ensures.value c.in-Variable.ensures.meant c.in_ok-name-in-Variable.ensures.text c.deref-in-Variable.ensures.value
+    (ap is_counting (sym c.as_str.ensures.value) ∙ sym c.is_counting.ensures ∙ c.if-is_counting.false)
+    (grind (arith, nat_tests)) c.as_str-2.ensures.value c.in-Variable.ensures.meant c.in_ok-name-in-Variable.ensures.text c.deref-in-Variable.ensures.value
     (c.unfold_read.ensures.term c.args.level.truth)
 
 pub applications::unfold_application-returns-in-Neither-clause-term : goal.applications::unfold_application-returns-in-Neither-clause-term
 applications::unfold_application-returns-in-Neither-clause-term t c =
     meant-unfolded c.args.context.now c.args.level c.args.scope.now (string_bytes c.args.function.now.text) c.args.arguments.now meant.Neither c.unfold_function-in-Neither.result
-    (grind (arith, nat_tests)) c.as_str.ensures.value c.in-Neither.ensures.meant c.unfold_function-in-Neither.ensures.term
+    (ap is_counting (sym c.as_str.ensures.value) ∙ sym c.is_counting.ensures ∙ c.if-is_counting.false)
+    (grind (arith, nat_tests)) c.as_str-2.ensures.value c.in-Neither.ensures.meant c.unfold_function-in-Neither.ensures.term
 
 pub applications::unfold_arithmetic-returns-in_err-left-clause-term : goal.applications::unfold_arithmetic-returns-in_err-left-clause-term
 applications::unfold_arithmetic-returns-in_err-left-clause-term t c =
@@ -519,13 +526,13 @@ unfold::unfold_free-returns-in-Definition-clause-faults t c =
 pub applications::unfold_application-returns-in-Definition-clause-faults : goal.applications::unfold_application-returns-in-Definition-clause-faults
 applications::unfold_application-returns-in-Definition-clause-faults t c =
     λ w h. c.unfold.ensures.faults w
-    (applied-definition-met c.args.context.now c.args.level c.args.scope.now (named c.args.function.now) c.args.arguments.now c.in-Definition.definition c.in-Definition.before c.as_str.ensures.value
+    (applied-definition-met c.args.context.now c.args.level c.args.scope.now (named c.args.function.now) c.args.arguments.now c.in-Definition.definition c.in-Definition.before c.as_str-2.ensures.value
     c.in-Definition.ensures.named c.deref.ensures.value w h)
 
 pub applications::unfold_application-returns-in_ok-name-in-Variable-clause-faults : goal.applications::unfold_application-returns-in_ok-name-in-Variable-clause-faults
 applications::unfold_application-returns-in_ok-name-in-Variable-clause-faults t c =
     λ w h. c.unfold_read.ensures.faults w
-    (applied-variable-met c.args.context.now c.args.level c.args.scope.now (named c.args.function.now) c.args.arguments.now c.in-Variable.variable c.as_str.ensures.value c.in-Variable.ensures.named
+    (applied-variable-met c.args.context.now c.args.level c.args.scope.now (named c.args.function.now) c.args.arguments.now c.in-Variable.variable c.as_str-2.ensures.value c.in-Variable.ensures.named
     c.in_ok-name-in-Variable.ensures.place c.deref-in-Variable.ensures.value w h)
 
 pub applications::unfold_application-returns-in-Neither-clause-faults : goal.applications::unfold_application-returns-in-Neither-clause-faults
@@ -858,3 +865,192 @@ applications::unfold_arguments-loop-argument-preserved t c =
 pub applications::unfold_arguments-returns-clause-term : goal.applications::unfold_arguments-returns-clause-term
 applications::unfold_arguments-returns-clause-term t c =
     all-unfolded c.args.context.now c.args.level c.args.scope.now c.args.arguments.now c.loop-argument.argument-index (λ h. omega (arith, h, c.loop-argument-test.false)) c.loop-argument.invariant.0
+
+-- ---- counting
+
+pub applications::unfold_application-returns-then-is_empty-clause-term : goal.applications::unfold_application-returns-then-is_empty-clause-term
+applications::unfold_application-returns-then-is_empty-clause-term t c =
+    subst (λ (z : Term). Unfolds (folding_in c.args.context.now) c.args.level.truth c.args.level.room z c.unfold_function.result)
+    (bare-applied (spec_in c.args.context.now) (forms_in c.args.context.now c.args.level.definitions) (scope_of (spec_in c.args.context.now) (forms_in c.args.context.now) c.args.scope.now)
+    (string_bytes c.args.function.now.text) c.args.arguments.now (ap is_counting (sym c.as_str.ensures.value) ∙ sym c.is_counting.ensures ∙ c.if-is_counting.false)
+    (none-of c.args.arguments.now (length c.args.arguments.now) refl (sym c.is_empty.ensures ∙ c.if-is_empty.true)))
+    c.unfold_function.ensures.term
+
+-- the name counts
+counts : {f shown : Name} {b : Bool} → shown ≡ f → b ≡ is_counting shown → b ≡ true → counting ≡ f
+counts {shown = shown} shows test holds = sym (same_text shown counting (sym holds ∙ test)) ∙ shows
+
+pub applications::unfold_application-returns-then-is_counting-clause-term : goal.applications::unfold_application-returns-then-is_counting-clause-term
+applications::unfold_application-returns-then-is_counting-clause-term t c =
+    subst (λ (f : Name). Unfolds (folding_in c.args.context.now) c.args.level.truth c.args.level.room
+    (put c.args.context.now c.args.level.definitions c.args.scope.now (Term.Apply f (tree.terms_of c.args.arguments.now))) c.unfold_count.result)
+    (counts c.as_str.ensures.value c.is_counting.ensures c.if-is_counting.true) c.unfold_count.ensures.term
+
+pub applications::unfold_application-returns-then-is_counting-clause-faults : goal.applications::unfold_application-returns-then-is_counting-clause-faults
+applications::unfold_application-returns-then-is_counting-clause-faults t c =
+    λ w h. c.unfold_count.ensures.faults w
+    (same-met c.args.context.now c.args.level c.args.scope.now
+    (ap (λ (f : Name). TermForm.application (record { place = c.args.function.now.place; text = f }) (argument_forms c.args.arguments.now))
+    (sym (counts c.as_str.ensures.value c.is_counting.ensures c.if-is_counting.true))) w h)
+
+pub counting::unfold_one-returns-in_err-behind_one-clause-term : goal.counting::unfold_one-returns-in_err-behind_one-clause-term
+counting::unfold_one-returns-in_err-behind_one-clause-term t c =
+    one-without-room c.args.context.now _ c.from_residual.result c.in_err-behind_one.field-0.0 c.from_residual.ensures.1 c.in_err-behind_one.ensures.0 c.in_err-behind_one.ensures.1
+
+pub counting::unfold_one-returns-in_err-condition-clause-term : goal.counting::unfold_one-returns-in_err-condition-clause-term
+counting::unfold_one-returns-in_err-condition-clause-term t c =
+    one-refused c.args.context.now _ c.from_residual-in_err-condition.result c.in_err-condition.field-0.0 c.from_residual-in_err-condition.ensures.1 c.in_ok-behind_one.ensures
+    c.in_err-condition.ensures.term
+
+pub counting::unfold_one-returns-clause-term : goal.counting::unfold_one-returns-clause-term
+counting::unfold_one-returns-clause-term t c =
+    one-unfolded c.args.context.now c.folding.ensures c.in_ok-behind_one.ensures c.in_ok-condition.ensures.term c.in_ok-one_if.ensures
+
+pub counting::unfold_one-returns-in_err-behind_one-clause-faults : goal.counting::unfold_one-returns-in_err-behind_one-clause-faults
+counting::unfold_one-returns-in_err-behind_one-clause-faults t c =
+    room-told c.args.context.now c.from_residual.result _ c.from_residual.ensures.1 c.in_err-behind_one.ensures.0 (λ w h. h.2)
+
+pub counting::unfold_one-returns-in_err-condition-clause-faults : goal.counting::unfold_one-returns-in_err-condition-clause-faults
+counting::unfold_one-returns-in_err-condition-clause-faults t c =
+    told c.args.context.now c.from_residual-in_err-condition.result _ c.from_residual-in_err-condition.ensures.1 c.in_err-condition.ensures.faults (λ w h. (h.0, h.1))
+
+pub counting::unfold_sum-returns-in_err-sum-clause-term : goal.counting::unfold_sum-returns-in_err-sum-clause-term
+counting::unfold_sum-returns-in_err-sum-clause-term t c =
+    first-one-refused c.args.context.now c.args.level c.args.scope.now c.args.counted c.args.tuples.now c.index-tuples-0.result c.from_residual.result c.in_err-sum.field-0.0 c.requires
+    c.index-tuples-0.is c.from_residual.ensures.1
+    (rw c.deref.ensures.value at (c.in_err-sum.ensures.term c.args.level.truth))
+
+pub counting::unfold_sum-loop-index-init : goal.counting::unfold_sum-loop-index-init
+counting::unfold_sum-loop-index-init t c = (
+  omega arith,
+  first-summed c.args.context.now c.args.level c.args.scope.now c.args.counted c.args.tuples.now c.index-tuples-0.result c.requires c.index-tuples-0.is (rw c.deref.ensures.value at
+      c.in_ok-sum.ensures.term),
+)
+
+pub counting::unfold_sum-returns-in_err-before-clause-term : goal.counting::unfold_sum-returns-in_err-before-clause-term
+counting::unfold_sum-returns-in_err-before-clause-term t c =
+    let ts = c.args.tuples.now in
+    let i = c.loop-index.index in
+    sum-without-room c.args.context.now c.args.level c.args.scope.now c.args.counted ts i (get_or ts i c.index-tuples-0.result) c.loop-index.invariant.0 c.loop-index-test.true
+    (tuple-there ts i c.index-tuples-0.result c.loop-index-test.true) c.loop-index.invariant.1 c.from_residual-in_err-before.result c.in_err-before.field-0.0
+    c.from_residual-in_err-before.ensures.1 (rw c.in_err-before.ensures at c.behind_one-room.ensures).0 (rw c.in_err-before.ensures at c.behind_one-room.ensures).1
+
+pub counting::unfold_sum-returns-in_err-before-2-clause-term : goal.counting::unfold_sum-returns-in_err-before-2-clause-term
+counting::unfold_sum-returns-in_err-before-2-clause-term t c =
+    next-one-refused c.args.context.now c.args.level c.args.scope.now c.args.counted c.args.tuples.now c.loop-index.index c.index-tuples-index.result c.loop-index.invariant.0
+    c.loop-index-test.true c.index-tuples-index.is
+    c.loop-index.invariant.1 c.from_residual-in_err-before-2.result c.in_err-before-2.field-0.0 c.from_residual-in_err-before-2.ensures.1 (rw c.in_ok-before.ensures.1 at c.behind_one-room.ensures)
+    (rw c.deref-in-loop-index.ensures.value at (rw c.in_err-before-2.ensures at c.unfold_one-one.ensures.term c.args.level.truth))
+
+pub counting::unfold_sum-loop-index-preserved : goal.counting::unfold_sum-loop-index-preserved
+counting::unfold_sum-loop-index-preserved t c = (
+  omega arith,
+  further-summed c.args.context.now c.args.level c.args.scope.now c.args.counted c.args.tuples.now c.loop-index.index c.index-tuples-index.result c.loop-index.invariant.0
+      c.loop-index-test.true c.index-tuples-index.is
+      c.loop-index.invariant.1 c.folding.ensures (rw c.in_ok-before.ensures.1 at c.behind_one-room.ensures)
+      (rw c.deref-in-loop-index.ensures.value at (rw c.in_ok-before-2.ensures.1 at c.unfold_one-one.ensures.term))
+      (rw (c.in_ok-before-2.ensures.0, c.in_ok-before.ensures.0) at c.in_ok-sum-2.ensures),
+)
+
+pub counting::unfold_sum-returns-clause-term : goal.counting::unfold_sum-returns-clause-term
+counting::unfold_sum-returns-clause-term t c =
+    all-summed c.args.context.now c.args.level c.args.scope.now c.args.counted c.args.tuples.now c.loop-index.index (λ h. omega (arith, h, c.loop-index-test.false)) c.loop-index.invariant.1
+
+pub counting::unfold_sum-returns-in_err-sum-clause-faults : goal.counting::unfold_sum-returns-in_err-sum-clause-faults
+counting::unfold_sum-returns-in_err-sum-clause-faults t c =
+    told c.args.context.now c.from_residual.result _ c.from_residual.ensures.1 (rw c.deref.ensures.value at c.in_err-sum.ensures.faults)
+    (counted-at-met c.args.context.now c.args.level c.args.scope.now c.args.counted c.args.tuples.now 0 c.index-tuples-0.result c.requires c.index-tuples-0.is)
+
+pub counting::unfold_sum-returns-in_err-before-clause-faults : goal.counting::unfold_sum-returns-in_err-before-clause-faults
+counting::unfold_sum-returns-in_err-before-clause-faults t c =
+    room-told c.args.context.now c.from_residual-in_err-before.result _ c.from_residual-in_err-before.ensures.1 (rw c.in_err-before.ensures at c.behind_one-room.ensures).0 (λ w h. h.2)
+
+pub counting::unfold_sum-returns-in_err-before-2-clause-faults : goal.counting::unfold_sum-returns-in_err-before-2-clause-faults
+counting::unfold_sum-returns-in_err-before-2-clause-faults t c =
+    told c.args.context.now c.from_residual-in_err-before-2.result _ c.from_residual-in_err-before-2.ensures.1
+    (rw c.deref-in-loop-index.ensures.value at (rw c.in_err-before-2.ensures at c.unfold_one-one.ensures.faults))
+    (counted-at-met c.args.context.now c.args.level c.args.scope.now c.args.counted c.args.tuples.now c.loop-index.index c.index-tuples-index.result c.loop-index-test.true c.index-tuples-index.is)
+
+-- the tuples are those of the quantifier's variables
+counted-tuples : (t : ℕ) (c : counting::unfold_counted-After-unfold_sum t)
+    → map tuple_of c.deref-3.result.now ≡ written_tuples (spec_in c.args.context.now) (erased_variables (variable_forms c.args.quantified.variables.now))
+counted-tuples t c =
+    ap (map tuple_of) c.deref-3.ensures.value ∙ tuples-written c.args.context.now c.in_ok-tuples.ensures c.sorts.ensures c.deref.ensures.value c.in_ok-variables.ensures
+
+counted-variables : (t : ℕ) (c : counting::unfold_counted-After-unfold_sum t) → map variable_of c.deref-2.result.now ≡ erased_variables (variable_forms c.args.quantified.variables.now)
+counted-variables t c = ap (map variable_of) c.deref-2.ensures.value ∙ c.in_ok-variables.ensures
+
+pub counting::unfold_counted-returns-then-is_empty-clause-term : goal.counting::unfold_counted-returns-then-is_empty-clause-term
+counting::unfold_counted-returns-then-is_empty-clause-term t c =
+    let v = c.in_ok-tuples.tuples in
+    let none : v.items ≡ [] = none-of v.items (vec_len v) (omega (arith, v.ok.0)) (sym c.is_empty.ensures ∙ c.if-is_empty.true) in
+    subst (λ (z : Term). IsUnfolded (folding_in c.args.context.now) c.args.level.truth c.args.level.room z c.number.result)
+    (none-counted c.args.context.now c.args.level c.args.scope.now (tree.term_of c.args.quantified.body.now) (erased_variables (variable_forms c.args.quantified.variables.now)) none
+    (tuples-written c.args.context.now c.in_ok-tuples.ensures c.sorts.ensures c.deref.ensures.value c.in_ok-variables.ensures))
+    (c.number.ensures.term (folding_in c.args.context.now) c.args.level.truth)
+
+pub counting::unfold_counted-returns-clause-term : goal.counting::unfold_counted-returns-clause-term
+counting::unfold_counted-returns-clause-term t c =
+    let here = (goal.at.counting::unfold_counted-returns-clause-term t c).After-unfold_sum in
+    subst (λ (z : Term). Unfolds (folding_in c.args.context.now) c.args.level.truth c.args.level.room z c.unfold_sum.result)
+    (count-said c.args.context.now c.args.level c.args.scope.now (record { place = c.args.quantified.place; variables = c.deref-2.result; condition = c.args.quantified.body })
+    (counted-variables t here) (counted-tuples t here))
+    c.unfold_sum.ensures.term
+
+pub counting::unfold_counted-returns-in_err-tuples-clause-faults : goal.counting::unfold_counted-returns-in_err-tuples-clause-faults
+counting::unfold_counted-returns-in_err-tuples-clause-faults t c =
+    let q = c.args.quantified in
+    let form = variable_forms q.variables.now in
+    let tuples = tuples-written c.args.context.now {shown = c.deref.result.now} refl c.sorts.ensures c.deref.ensures.value c.in_ok-variables.ensures in
+    values-told c.args.context.now (written_tuples (spec_of c.sorts.result) (map variable_of c.deref.result.now)) c.from_residual-in_err-tuples.result _ c.from_residual-in_err-tuples.ensures.1
+    c.in_err-tuples.ensures
+    (λ w h many. (
+      at (suc c.args.level.depth) c.args.level.definitions (scope_said c.args.context.now c.args.scope.now) (TermForm.quantified q.quantifier q.place form (term_form q.body.now)),
+      h.0,
+      (refl, subst (λ (ts : List (List Term)). 8192 < length ts) tuples many),
+    ))
+
+pub counting::unfold_counted-returns-clause-faults : goal.counting::unfold_counted-returns-clause-faults
+counting::unfold_counted-returns-clause-faults t c =
+    let here = (goal.at.counting::unfold_counted-returns-clause-faults t c).After-unfold_sum in
+    λ w h. c.unfold_sum.ensures.faults w
+    (quantified-counted c.args.context.now c.args.level c.args.scope.now
+    (record { place = c.args.quantified.place; variables = c.deref-2.result; condition = c.args.quantified.body }) c.args.quantified (counted-variables t here) (counted-tuples t here) refl refl w h)
+
+pub counting::unfold_counted-unfold_sum-requires : goal.counting::unfold_counted-unfold_sum-requires
+counting::unfold_counted-unfold_sum-requires t c = grind (arith, nat_tests)
+
+pub counting::unfold_count-returns-in_default-clause-term : goal.counting::unfold_count-returns-in_default-clause-term
+counting::unfold_count-returns-in_default-clause-term t c =
+    subst (λ (z : Term). IsUnfolded (folding_in c.args.context.now) c.args.level.truth c.args.level.room z c.number.result)
+    (counting-none (spec_in c.args.context.now) (forms_in c.args.context.now c.args.level.definitions) (scope_of (spec_in c.args.context.now) (forms_in c.args.context.now) c.args.scope.now)
+    c.args.arguments.now c.in_default.ensures.value)
+    (c.number.ensures.term (folding_in c.args.context.now) c.args.level.truth)
+
+pub counting::unfold_count-returns-in-Some-quantifier_in-clause-term : goal.counting::unfold_count-returns-in-Some-quantifier_in-clause-term
+counting::unfold_count-returns-in-Some-quantifier_in-clause-term t c =
+    subst (λ (z : Term). Unfolds (folding_in c.args.context.now) c.args.level.truth c.args.level.room z c.unfold_counted.result)
+    (counting-quantified c.args.context.now c.args.level c.args.scope.now c.args.place c.args.arguments.now c.in-Some.argument.now c.in-Some.ensures.value c.in-Some-quantifier_in.quantified
+    c.in-Some-quantifier_in.ensures)
+    c.unfold_counted.ensures.term
+
+pub counting::unfold_count-returns-in-None-clause-term : goal.counting::unfold_count-returns-in-None-clause-term
+counting::unfold_count-returns-in-None-clause-term t c =
+    subst (λ (z : Term). IsUnfolded (folding_in c.args.context.now) c.args.level.truth c.args.level.room z c.number-in-None.result)
+    (counting-other c.args.context.now c.args.level c.args.scope.now c.args.place c.args.arguments.now c.in-Some.argument.now c.in-Some.ensures.value c.in-None.ensures)
+    (c.number-in-None.ensures.term (folding_in c.args.context.now) c.args.level.truth)
+
+pub counting::unfold_count-returns-in_default-checked_sub-clause-faults : goal.counting::unfold_count-returns-in_default-checked_sub-clause-faults
+counting::unfold_count-returns-in_default-checked_sub-clause-faults t c =
+    depth-told c.args.context.now c.refused.result c.refused.ensures
+    (counting-deep c.args.context.now c.args.level c.args.scope.now c.args.place c.args.arguments.now c.in-Some.argument.now c.in-Some.ensures.value c.place_of.ensures (omega (
+      arith,
+      c.in_default-checked_sub.ensures,
+    )))
+
+pub counting::unfold_count-returns-in-Some-quantifier_in-clause-faults : goal.counting::unfold_count-returns-in-Some-quantifier_in-clause-faults
+counting::unfold_count-returns-in-Some-quantifier_in-clause-faults t c =
+    λ w h. c.unfold_counted.ensures.faults w
+    (counting-quantifier-met c.args.context.now c.args.level c.args.scope.now c.args.place c.args.arguments.now c.in-Some.argument.now c.in-Some.ensures.value
+    c.in-Some-quantifier_in.quantified c.in-Some-quantifier_in.ensures
+    (omega (arith, c.in-Some-checked_sub.ensures.0, c.in-Some-checked_sub.ensures.1)) w h)

@@ -1,15 +1,17 @@
-use Rattle.std.proofs.Common.{◌≡◌, ◌+◌, ◌*◌, Bool, false, drop, take}
+use Rattle.std.proofs.Common.{◌≡◌, ◌<◌, ◌+◌, ◌*◌, Bool, false, drop, map, take}
 use Rattle.pb_text_tree.specs.Form.{term_form}
 use Rattle.pb_protocol_folding.specs.View as tree
 use Rattle.pb_protocol_folding.specs.Kept.{joining}
-use Rattle.pb_protocol_unfolding.specs.PutIn.{joined}
+use Rattle.pb_protocol_unfolding.specs.PutIn.{counted, joined}
 use Rattle.pb_protocol_unfolder_terms.specs.Chains.{chain_term, operands_of}
 use Rattle.pb_protocol_unfolder_terms.specs.Contexts.{folding_in}
+use Rattle.pb_protocol_unfolder_terms.specs.Counted.{conditions_by}
 use Rattle.pb_protocol_unfolder_terms.specs.Copies.{copies_by, copied_term}
 use Rattle.pb_protocol_unfolder_terms.specs.Operands.{IsLeft}
 use Rattle.pb_protocol_unfolder_terms.specs.Puts.{AreArguments, calculated_term, put, puts, truth_behind}
 use Rattle.pb_protocol_unfolder_terms.proofs.MetLemmas.{IsChainOperand}
 use Rattle.pb_protocol_unfolder_terms.specs.Unfolding.{IsUnfolded}
+use Rattle.pb_protocol_unfolder_terms.specs.Values.{tuple_of}
 use Rattle.pb_protocol_unfolder_terms.proofs.+unfolding.Given as goal
 
 abbrev pub decreases-unfold::unfold_free : goal.decreases-unfold::unfold_free
@@ -61,6 +63,18 @@ decreases-reads::unfold_choices l = 8 * l.level.depth
 abbrev pub decreases-reads::unfold_read : goal.decreases-reads::unfold_read
 decreases-reads::unfold_read l = 8 * l.level.depth + 1
 
+abbrev pub decreases-counting::unfold_one : goal.decreases-counting::unfold_one
+decreases-counting::unfold_one l = 8 * l.level.depth + 1
+
+abbrev pub decreases-counting::unfold_sum : goal.decreases-counting::unfold_sum
+decreases-counting::unfold_sum l = 8 * l.level.depth + 2
+
+abbrev pub decreases-counting::unfold_counted : goal.decreases-counting::unfold_counted
+decreases-counting::unfold_counted l = 8 * l.level.depth + 3
+
+abbrev pub decreases-counting::unfold_count : goal.decreases-counting::unfold_count
+decreases-counting::unfold_count l = 8 * l.level.depth + 5
+
 -- what is left of the chain from the operand on that comes next
 abbrev pub invariant-connectives::unfold_operands-loop-link : goal.invariant-connectives::unfold_operands-loop-link
 invariant-connectives::unfold_operands-loop-link l =
@@ -96,3 +110,10 @@ invariant-applications::unfold_arguments-loop-argument l =
     let ts = puts l.context l.fn.level.definitions l.scope (tree.terms_of (take l.argument-index l.arguments)) in
     AreArguments (folding_in l.context) l.fn.level.truth l.fn.level.room ts l.unfolded
     × (l.truth ≡ truth_behind l.fn.level.truth ts)
+
+-- the sum of the tuples before the next one is unfolded, whatever counts of it
+abbrev pub invariant-counting::unfold_sum-loop-index : goal.invariant-counting::unfold_sum-loop-index
+invariant-counting::unfold_sum-loop-index l =
+    (0 < l.index)
+    × ((truth : Bool) → IsUnfolded (folding_in l.context) truth l.level.room
+    (counted (conditions_by l.context l.level.definitions l.scope l.counted (map tuple_of (take l.index l.tuples)))) l.sum)

@@ -4,7 +4,7 @@ use Rattle.pb_model_tree.specs.Form.{model_form}
 use Rattle.pb_protocol_tree.specs.Form.{protocol_form}
 use Rattle.pb_model_properties.proofs.Counts.{is_protocol_counted}
 use Rattle.pb_model_properties.proofs.FlatModels.{rules_broken}
-use Rattle.pb_model_properties.proofs.Made.{IsPlainFor, kept_is_flat, plain_few, plain_is_flat, plain_names_of, plain_refused}
+use Rattle.pb_model_properties.proofs.Made.{IsPlainFor, kept_is_flat, plain_counts_nothing, plain_few, plain_is_flat, plain_names_of, plain_refused}
 use Rattle.pb_model_properties.proofs.PlainModels.{typed_is_plain}
 use Rattle.pb_model_properties.proofs.SolvedModels.{flat_told, refused_for, solved_for}
 use Rattle.pb_model_properties.proofs.plain.plain_solved.Goals as goal
@@ -38,8 +38,9 @@ returns-in-Ok-check_model-clause-model c =
     (is_protocol_counted c.args.protocol c.deref.result.now c.in_ok-is_state_large.field-0 false c.in_ok-is_state_large.ensures c.deref.ensures.value c.if-branch.false) in
     let is : IsPlainFor protocol m =
     record { plainly = c.requires.plain; words = made.words; rules = inr (made.words, few); meaning = made.meaning; solvable = c.requires.solvable; kept = laws.kept } in
+    let counts = plain_counts_nothing protocol m c.requires.plain made.words in
     flat_told laws.said c.in_ok-model-2.model c.in-Ok-check_model.typed None few c.in-Ok-check_model.ensures.kept c.in-Ok-check_model.ensures.accepted protocol
-    (plain_is_flat laws.plain protocol m is (typed_is_plain laws.names m c.in-Ok-check_model.ensures.accepted)) (plain_names_of protocol m c.requires.plain)
+    (plain_is_flat laws.plain protocol m is (typed_is_plain laws.names m counts c.in-Ok-check_model.ensures.accepted)) (plain_names_of protocol m c.requires.plain)
 
 pub returns-in-Err-check_model-clause-refused : goal.returns-in-Err-check_model-clause-refused
 returns-in-Err-check_model-clause-refused c =

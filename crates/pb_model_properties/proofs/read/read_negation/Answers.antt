@@ -8,7 +8,7 @@ use Rattle.pb_protocol_tree.specs.Form.{ProtocolForm, property_form, protocol_fo
 use Rattle.pb_model_faults.specs.declared.ModelFault.{ModelFault}
 use Rattle.pb_model_properties.specs.Negations.{HasPropertyAt, IsRefusedNegation}
 use Rattle.pb_model_properties.specs.Refusals.{IsUnread}
-use Rattle.pb_model_properties.proofs.Negations.{made_at, negation_model, negation_refused, was_read}
+use Rattle.pb_model_properties.proofs.Negations.{made_at, negation_model, negation_refused, same_reading, unread_negation}
 use Rattle.pb_model_properties.proofs.read.read_negation.Goals as goal
 use Rattle.pb_model_properties.proofs.read.read_negation.Goals.{In_ok-protocol}
 
@@ -17,7 +17,7 @@ within : (c : In_ok-protocol) → c.args.place < length c.in_ok-protocol.protoco
 within c =
     let has = c.requires.within in
     let items = c.in_ok-protocol.protocol.properties.items in
-    let same : has.0 ≡ protocol_form c.in_ok-protocol.protocol = c.in_ok-protocol.ensures.said.only _ _ has.0 has.1.reading in
+    let same : has.0 ≡ protocol_form c.in_ok-protocol.protocol = same_reading c.args.bytes.now (protocol_form c.in_ok-protocol.protocol) has.0 c.in_ok-protocol.ensures.said has.1 in
     let long = ap (λ (p : ProtocolForm). length p.properties) same in
     omega (arith, has.2, long, length-map items property_form)
 
@@ -38,12 +38,12 @@ returns-clause-refused c =
     negation_refused (protocol_form protocol) c.args.place here.0 here.1 c.args.bytes.now c.in_ok-protocol.ensures.said (protocol_form c.in_ok-negation.negation)
     (c.in_ok-negation.ensures.negated here.0 here.1) c.made.result c.made.ensures.refused
 
--- what the bytes say was read
+-- what the bytes say was read, but for its constants
 handed_on : {T : Type 0} (bytes : List ℕ) (place : ℕ) (e : OrMemory ModelFault) (r : Result T (OrMemory ModelFault)) → HasPropertyAt bytes place → IfFault e (IsUnread bytes)
     → IsErrAnd r (λ x. x ≡ e) → IfRefused r (IsRefusedNegation bytes place)
 handed_on bytes place e (Ok x) has h made = tt
 handed_on bytes place e (Err x) has h made =
-    subst (λ y. IfFault y (IsRefusedNegation bytes place)) (sym made) (if_fault e (λ f unread. absurd (was_read bytes place f has unread)) h)
+    subst (λ y. IfFault y (IsRefusedNegation bytes place)) (sym made) (if_fault e (λ f unread. unread_negation bytes place f has unread) h)
 
 pub returns-in_err-protocol-clause-refused : goal.returns-in_err-protocol-clause-refused
 returns-in_err-protocol-clause-refused c =

@@ -4,7 +4,7 @@ use Rattle.pb_text_tree.specs.Form.{named, variable_forms}
 use Rattle.pb_protocol_typing.specs.Fault.{first_fault, either_fault}
 use Rattle.pb_protocol_typing.specs.Formulas.{hidden_fault, variables_fault}
 use Rattle.pb_protocol_typing.specs.View.{scope_of}
-use Rattle.pb_protocol_typing.proofs.Groups.{group-fault}
+use Rattle.pb_protocol_typing.proofs.Groups.{group-first}
 use Rattle.pb_protocol_typing.proofs.Rows.{found, left_out}
 use Rattle.pb_protocol_typing.proofs.formula.variables_fault.Goals as goal
 use Rattle.pb_protocol_typing.proofs.formula.variables_fault.Goals.{After-deref}
@@ -18,7 +18,7 @@ next c =
     let s = scope_of c.args.scope.now in
     let rest = variables_fault s (variable_forms (drop (c.loop-group.group-index + 1) c.args.groups.now)) in
     c.loop-group.invariant
-    ∙ (group-fault s c.args.groups.now c.loop-group.group-index c.group-item.result c.loop-group-test.true c.group-item.is
+    ∙ (group-first (hidden_fault s) c.args.groups.now c.loop-group.group-index c.group-item.result c.loop-group-test.true c.group-item.is
     ∙ ap (λ (ns : List Name). either_fault (first_fault (hidden_fault s) (map named ns)) rest) (sym c.deref.ensures.value))
 
 pub returns-in-Some : goal.returns-in-Some

@@ -14,7 +14,7 @@ returns-in_err-value-in-Value-clause-refused c =
     let ρ = scope_within c.args.unfolder.now c.args.scope.now.names in
     let a = c.in-Value.argument in
     part c.from_residual.result c.in_err-value-in-Value.field-0.0
-    (IsAt a.place (HasNoValue (protocol_in c.args.unfolder.now) (meant ρ (term_of a.term))))
+    (IsAt a.place (HasNoValue (protocol_in c.args.unfolder.now) (meant (protocol_in c.args.unfolder.now) ρ (term_of a.term))))
     (IsFaultOfValue (protocol_in c.args.unfolder.now) ρ ((written_term c.args.own) ∷ []) (step_value_form c.args.named.now)) c.from_residual.ensures.1
     (λ p at. subst (λ (v : StepValue). IsFaultOfValue (protocol_in c.args.unfolder.now) ρ ((written_term c.args.own) ∷ []) (step_value_form v) p) (sym c.in-Value.is) (at.0, inl at.1))
     c.in_err-value-in-Value.ensures.refused

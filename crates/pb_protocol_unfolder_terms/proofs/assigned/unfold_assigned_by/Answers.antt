@@ -1,12 +1,10 @@
 use Rattle.std.proofs.Common.{◌≡◌, ℕ, false, length, subst, arith}
-use Rattle.pb_protocol_unfolder_terms.specs.Assigned.{after_by, element_said}
+use Rattle.pb_protocol_unfolder_terms.specs.Assigned.{after_by, element_said, placed_by}
 use Rattle.pb_protocol_unfolder_terms.specs.Contexts.{folding_in}
 use Rattle.pb_protocol_unfolder_terms.specs.Unfolding.{Unfolds}
-use Rattle.std.proofs.Common.{map}
 use Rattle.std.specs.Prelude.{IfErr}
-use Rattle.pb_protocol_tree.specs.Form.{assignment_form}
-use Rattle.pb_protocol_unfolder_terms.specs.Tells.{scope_said, surroundings_in}
-use Rattle.pb_protocol_unfolder_terms.specs.TermFaults.{IfFaultAt, IsFaultInAssignments}
+use Rattle.pb_protocol_unfolder_terms.specs.Tells.{surroundings_in}
+use Rattle.pb_protocol_unfolder_terms.specs.TermFaults.{IfFaultAt, IsFaultInCopies}
 use Rattle.pb_protocol_unfolder_terms.proofs.assigned.unfold_assigned_by.Goals as goal
 use Rattle.pb_protocol_unfolder_terms.proofs.assigned.unfold_assigned_by.Goals.{After-len}
 
@@ -16,12 +14,12 @@ counted c = omega (arith, c.len.ensures, c.args.context.now.definitions.ok.0)
 
 pub returns-clause-term : goal.returns-clause-term
 returns-clause-term c = λ sort.
-    subst (λ (n : ℕ). Unfolds (folding_in c.args.context.now) false 8192 (after_by c.args.context.now n c.args.scope.now c.args.assignments.now (element_said c.args.element sort))
+    subst (λ (n : ℕ). Unfolds (folding_in c.args.context.now) false 8192 (after_by c.args.context.now n c.args.scope.now c.args.copies.now (element_said c.args.element sort))
     c.unfold_after.result)
     (counted (goal.at.returns-clause-term c).After-len) (c.unfold_after.ensures.term sort)
 
 pub returns-clause-faults : goal.returns-clause-faults
 returns-clause-faults c =
     λ v. subst (λ (n : ℕ). IfErr c.unfold_after.result
-    (IfFaultAt (IsFaultInAssignments (surroundings_in c.args.context.now) 200 n (scope_said c.args.context.now c.args.scope.now) (map assignment_form c.args.assignments.now))))
+    (IfFaultAt (IsFaultInCopies (surroundings_in c.args.context.now) 200 n (placed_by c.args.context.now c.args.scope.now c.args.copies.now))))
     (counted (goal.at.returns-clause-faults c).After-len) (c.unfold_after.ensures.faults v)

@@ -17,21 +17,21 @@ use Rattle.pb_protocol_unfolder_steps.proofs.StepFaultLemmas.{term-told-so}
 use Rattle.pb_protocol_unfolder_steps.proofs.unfolder.Unfolder.unfold_assigned.Goals as goal
 
 pub returns-in-Ok-clause-term : goal.returns-in-Ok-clause-term
-returns-in-Ok-clause-term c =
+returns-in-Ok-clause-term c = λ all are.
     let e = c.args.element.now in
-    let assigned_at : List Written → Term = λ ks. element_assigned (protocol_in c.args.self.now) (scope_within c.args.self.now c.args.scope.now) (protocol_assignments c.args.assignments.now)
+    let assigned_at : List Written → Term = λ ks. element_assigned (protocol_in c.args.self.now) (scope_within c.args.self.now c.args.scope.now) (protocol_assignments all)
     (element_at e.name.now e.sort.now (map written_term ks)) in
     let here = subst (λ (p : Protocol). IsContextOf (protocol_form p) c.self.inside.context) c.self.view_is c.self.invariant.0 in
-    (c.in-Ok.ensures.term (protocol_in c.args.self.now) (string_bytes e.sort.now.text) here.context).term ∙ ap assigned_at c.deref.ensures.value
+    (c.in-Ok.ensures.term (protocol_in c.args.self.now) (string_bytes e.sort.now.text) all here.context are).term ∙ ap assigned_at c.deref.ensures.value
 
 pub returns-in-Err-clause-refused : goal.returns-in-Err-clause-refused
-returns-in-Err-clause-refused c =
+returns-in-Err-clause-refused c = λ all are.
     let u = c.args.self.now in
     let P : List Term → UnfoldRule → Place → Type 0 =
-    λ ks. IsFaultInElement (surroundings_of (form_in u)) (scope_within u c.args.scope.now) (map assignment_form c.args.assignments.now)
+    λ ks. IsFaultInElement (surroundings_of (form_in u)) (scope_within u c.args.scope.now) (map assignment_form all)
     (element_at c.args.element.now.name.now c.args.element.now.sort.now ks) in
     let here = subst (λ (p : Protocol). IsContextOf (protocol_form p) c.self.inside.context) c.self.view_is c.self.invariant.0 in
     let same = ap (λ (ks : List Written). map written_term ks) c.deref.ensures.value in
     subst (λ (ks : List Term). IfFault c.of_term.result (OnTerm (WithValues c.args.scope.now (P ks)))) same
     (term-told-so (HasValues c.args.scope.now) (P (map written_term c.deref.result.now)) c.in-Err.error c.of_term.result c.of_term.ensures
-    (c.in-Err.ensures.faults (surroundings_of (form_in u)) (string_bytes c.args.element.now.sort.now.text) here.surroundings))
+    (c.in-Err.ensures.faults (surroundings_of (form_in u)) (string_bytes c.args.element.now.sort.now.text) all here.surroundings are))
