@@ -52,6 +52,10 @@ TURNED_ON = (
 # One file that is answered, and one that is refused: their lines are kept until both are known.
 TWO_FILES = (1, b"/dev/stdin: r false\n", b"/dev/null: P02 line 1 column 1\n")
 SINKS = b'0 1 0 0 "false";\n1 0 0 1 "true";\n'
+SIZES = (
+    b"state on 2 ^ 9\nstate at 9\nelements 10\nstates 4608\nstep go 9\nstep rest 1\nsteps 10\nproperty off 1\n"
+)
+
 CASES = [
     ("solve", "cycle", CYCLE, b"answer false\ninstances 2\ncut 0\nvertices 4\n"),
     ("game", "cycle", CYCLE, b"parity 3;\n" + SINKS + b'2 1 0 3 "X";\n3 0 0 2 "Y";\n'),
@@ -68,6 +72,7 @@ CASES = [
     ("check /dev/stdin /dev/null", "model", MODEL, TWO_FILES),
     ("why", "model", MODEL, LASSO),
     ("why", "protocol", PROTOCOL, TURNED_ON),
+    ("size", "protocol", PROTOCOL, SIZES),
     ("solve-code", "others", MODULE, b"answer true\ninstances 3\ncut 0\nvertices 5\n"),
     ("solve-code", "counts down", COUNTS_DOWN, b"answer true\ninstances 10\ncut 0\nvertices 12\n"),
 ]
@@ -118,10 +123,11 @@ class Refusals:
 def sweep(refusals, case, workers, kind, is_part, wrong):
     """Refuses each request or thread in turn: how many were refused, and how many of these runs answered all the same."""
     command, name, text, answer = case
+    words = [*command.split(), *([] if command == "size" else ["--workers", str(workers)])]
     whole = answer if isinstance(answer, tuple) else (0, answer, b"")
     number, refused, answered, calm = 1, 0, 0, 0
     while calm < (20 if workers > 1 and not is_part else 1):
-        ended, what, places = refusals.run([*command.split(), "--workers", str(workers)], text, **{kind: number})
+        ended, what, places = refusals.run(words, text, **{kind: number})
         if what == "nothing":
             calm += 1
             is_wanted = ended == whole
@@ -156,7 +162,13 @@ def sweep_worker(tests, wrong):
 
 def main():
     wrong, tests = [], sys.argv[2:]
-    tasks = [(case, workers, kind) for case in CASES for workers in (1, 2) for kind in ("request", "thread")]
+    # What explores nothing takes no workers.
+    tasks = [
+        (case, workers, kind)
+        for case in CASES
+        for workers in ((1,) if case[0] == "size" else (1, 2))
+        for kind in ("request", "thread")
+    ]
     with tempfile.TemporaryDirectory() as folder, concurrent.futures.ThreadPoolExecutor(os.cpu_count()) as pool:
         refusals, *alone = [Refusals(os.path.abspath(path), folder) for path in sys.argv[1:]]
         swept = pool.map(lambda task: sweep(refusals, *task, bool(tests), wrong), tasks)

@@ -59,6 +59,7 @@ no_fault name command.Verify alone = refl
 no_fault name command.List alone = refl
 no_fault name command.SolveCode alone = refl
 no_fault name command.Translate alone = refl
+no_fault name command.Size alone = refl
 no_fault name command.Check alone = refl
 no_fault name command.Why alone = refl
 no_fault name command.Rule alone = absurd alone
@@ -98,6 +99,7 @@ command_alone name command.Verify alone = refl
 command_alone name command.List alone = refl
 command_alone name command.SolveCode alone = refl
 command_alone name command.Translate alone = refl
+command_alone name command.Size alone = refl
 command_alone name command.Check alone = refl
 command_alone name command.Why alone = refl
 command_alone name command.Rule alone = absurd alone
@@ -123,6 +125,7 @@ plain_request command.Verify alone = Input (task.Verify Declared)
 plain_request command.List alone = Input (task.List Declared)
 plain_request command.SolveCode alone = Input (task.SolveCode plain_solving Declared)
 plain_request command.Translate alone = Input (task.Translate (record { property = None; files = no_words }))
+plain_request command.Size alone = Input (task.Size (record { property = None; files = no_words }))
 plain_request command.Check alone = Check (record { solving = plain_solving; properties = no_words; status = false; counts = false; files = no_words })
 plain_request command.Why alone = Input (task.Why (record { workers = 1; progress = false; property = None; lines = false; files = no_words; some = omega arith; few = omega arith }))
 plain_request command.Rule alone = absurd alone
@@ -159,6 +162,7 @@ plain_read command.Verify alone = declared_count _ not_told
 plain_read command.List alone = declared_count _ not_told
 plain_read command.SolveCode alone = (plain_solved (unset (codes "progress") ∷ unset (codes "reached") ∷ []) refl refl not_told, declared_count _ not_told)
 plain_read command.Translate alone = record { property = refl; files = refl }
+plain_read command.Size alone = record { property = refl; files = refl }
 plain_read command.Check alone =
     record {
       solving = plain_solved (unset (codes "progress") ∷ unset (codes "status") ∷ unset (codes "counts") ∷ []) refl refl not_told;
@@ -185,6 +189,7 @@ plain_command command.Verify alone = refl
 plain_command command.List alone = refl
 plain_command command.SolveCode alone = refl
 plain_command command.Translate alone = refl
+plain_command command.Size alone = refl
 plain_command command.Check alone = refl
 plain_command command.Why alone = refl
 plain_command command.Rule alone = absurd alone
@@ -213,6 +218,7 @@ NamesNone rows = (first_of (codes "property") rows ≡ None) × (unwrap_or (all_
 none_named : (rows : List Row) (request : Request) → NamesNone rows → HasOptions rows request → property_names request ≡ []
 none_named rows (Page shown) none has = refl
 none_named rows (Input (task.Translate o)) none has = ap option_to_list (has.property ∙ none.0)
+none_named rows (Input (task.Size o)) none has = ap option_to_list (has.property ∙ none.0)
 none_named rows (Check o) none has = has.properties ∙ none.1
 none_named rows (Input (task.Why o)) none has = ap option_to_list (has.property ∙ none.0)
 none_named rows (Input (task.Solve o counting)) none has = refl
@@ -228,6 +234,7 @@ none_named rows (Input (task.List counting)) none has = refl
 no_files : (rows : List Row) (request : Request) → NamesNone rows → HasOptions rows request → named_files request ≡ []
 no_files rows (Page shown) none has = refl
 no_files rows (Input (task.Translate o)) none has = has.files ∙ none.2
+no_files rows (Input (task.Size o)) none has = has.files ∙ none.2
 no_files rows (Check o) none has = has.files ∙ none.2
 no_files rows (Input (task.Why o)) none has = has.files ∙ none.2
 no_files rows (Input (task.Solve o counting)) none has = refl
@@ -252,6 +259,7 @@ no_names command.Verify alone = (refl, refl, refl)
 no_names command.List alone = (refl, refl, refl)
 no_names command.SolveCode alone = (refl, refl, refl)
 no_names command.Translate alone = (refl, refl, refl)
+no_names command.Size alone = (refl, refl, refl)
 no_names command.Check alone = (refl, refl, refl)
 no_names command.Why alone = (refl, refl, refl)
 no_names command.Rule alone = absurd alone

@@ -260,7 +260,7 @@ module _ (a : App) (s : Shape) (name : Text) (at : StopsAt a s name) where
       ∙ (ap (λ o. level_fault a.top (names_of a) nothing_held (name ∷ files) (is_some (option_map (λ x. rows_at x files) o)) (entered_fault a (Some (name, files)))) at.shape
       ∙ no_fault_in files below)
 
--- ---- the three commands that take files
+-- ---- the commands that take files
 
 leaf : Command → Shape
 leaf command = unwrap_or (find (λ x. answers_to (command_name command) (label_of x)) (built command_line).subs) (new_shape [])
@@ -270,6 +270,7 @@ unfolding clap_on_literals leaf
 line_stops command.Check takes = record { stops = refl; turn = refl; shape = refl; defaults = refl; checked = refl }
 line_stops command.Why takes = record { stops = refl; turn = refl; shape = refl; defaults = refl; checked = refl }
 line_stops command.Translate takes = record { stops = refl; turn = refl; shape = refl; defaults = refl; checked = refl }
+line_stops command.Size takes = record { stops = refl; turn = refl; shape = refl; defaults = refl; checked = refl }
 line_stops command.Solve takes = absurd takes
 line_stops command.Game takes = absurd takes
 line_stops command.Solution takes = absurd takes
@@ -288,6 +289,7 @@ unfolding clap_on_literals leaf
 line_takes command.Check takes = record { at_first = refl; by_id = refl; names = λ v vs. refl; defaults = λ v vs. refl; checked = λ v vs. refl; no_names = refl; no_faults = refl }
 line_takes command.Why takes = record { at_first = refl; by_id = refl; names = λ v vs. refl; defaults = λ v vs. refl; checked = λ v vs. refl; no_names = refl; no_faults = refl }
 line_takes command.Translate takes = record { at_first = refl; by_id = refl; names = λ v vs. refl; defaults = λ v vs. refl; checked = λ v vs. refl; no_names = refl; no_faults = refl }
+line_takes command.Size takes = record { at_first = refl; by_id = refl; names = λ v vs. refl; defaults = λ v vs. refl; checked = λ v vs. refl; no_names = refl; no_faults = refl }
 line_takes command.Solve takes = absurd takes
 line_takes command.Game takes = absurd takes
 line_takes command.Solution takes = absurd takes
@@ -305,13 +307,15 @@ line_takes command.Version takes = absurd takes
 
 -- the name is that of a command which takes files
 is_files_name : Text → Bool
-is_files_name name = bytes_eq name (codes "check") || (bytes_eq name (codes "why") || bytes_eq name (codes "translate"))
+is_files_name name =
+    bytes_eq name (codes "check") || (bytes_eq name (codes "why") || (bytes_eq name (codes "translate") || bytes_eq name (codes "size")))
 
 files_name : (command : Command) → TakesFiles command → is_files_name (command_name command) ≡ true
 unfolding is_files_name
 files_name command.Check takes = refl
 files_name command.Why takes = refl
 files_name command.Translate takes = refl
+files_name command.Size takes = refl
 files_name command.Solve takes = absurd takes
 files_name command.Game takes = absurd takes
 files_name command.Solution takes = absurd takes
@@ -330,6 +334,7 @@ names_by_rows : (rows : List Row) (request : Request) → is_files_name (command
 unfolding is_files_name
 names_by_rows rows (Check o) takes has = has.files
 names_by_rows rows (Input (task.Translate o)) takes has = has.files
+names_by_rows rows (Input (task.Size o)) takes has = has.files
 names_by_rows rows (Input (task.Why o)) takes has = has.files
 names_by_rows rows (Page (page.Rule rule)) takes has = absurd (cc takes)
 names_by_rows rows (Page (page.Usage topic)) takes has = absurd (cc takes)
@@ -353,6 +358,7 @@ unfolding leaf
 leaf_name command.Check takes = refl
 leaf_name command.Why takes = refl
 leaf_name command.Translate takes = refl
+leaf_name command.Size takes = refl
 leaf_name command.Solve takes = absurd takes
 leaf_name command.Game takes = absurd takes
 leaf_name command.Solution takes = absurd takes

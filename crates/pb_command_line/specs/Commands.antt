@@ -2,7 +2,7 @@
 use Rattle.std.specs.Prelude.{◌≡◌, ◌==◌, ◌||◌, ℕ, Bool, List, codes}
 use Rattle.std.specs.List.{after_first, before_first}
 use Rattle.pb_command_line.specs.declared.command.Command.{Command}
-use Rattle.pb_command_line.specs.declared.command.Command.TheVariants.{Solve, Game, Solution, Certificate, Explain, Compile, Verify, List as ListModule, SolveCode, Translate, Check, Why, Rule, Usage, Version}
+use Rattle.pb_command_line.specs.declared.command.Command.TheVariants.{Solve, Game, Solution, Certificate, Explain, Compile, Verify, List as ListModule, SolveCode, Translate, Check, Why, Size, Rule, Usage, Version}
 
 -- the name of a command on the command line
 abbrev pub command_name : Command → List ℕ
@@ -18,6 +18,7 @@ command_name SolveCode = codes "solve-code"
 command_name Translate = codes "translate"
 command_name Check = codes "check"
 command_name Why = codes "why"
+command_name Size = codes "size"
 command_name Rule = codes "rule"
 command_name Usage = codes "usage"
 command_name Version = codes "version"

@@ -146,6 +146,7 @@ command_line =
     let translate = with_subcommand solve_code (translating_shape (codes "translate")) in
     let check = with_subcommand translate (checking_shape (codes "check")) in
     let why = with_subcommand check (showing_shape (codes "why")) in
-    let rule = with_subcommand why (rule_shape (codes "rule")) in
+    let size = with_subcommand why (translating_shape (codes "size")) in
+    let rule = with_subcommand size (rule_shape (codes "rule")) in
     let usage = with_subcommand rule (usage_shape (codes "usage")) in
     with_subcommand usage (new_shape (codes "version"))

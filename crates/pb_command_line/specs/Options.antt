@@ -23,7 +23,7 @@ use Rattle.pb_command_line.specs.declared.page.Page as pages
 use Rattle.pb_command_line.specs.declared.page.Page.TheVariants as page
 use Rattle.pb_command_line.specs.declared.request.Request.{Request}
 use Rattle.pb_command_line.specs.declared.request.Request.TheVariants.{Page, Check, Input}
-use Rattle.pb_command_line.specs.declared.request.Task.TheVariants.{Solve, Game, Solution, Certificate, Explain, Compile, Verify, List as ListModule, SolveCode, Translate, Why}
+use Rattle.pb_command_line.specs.declared.request.Task.TheVariants.{Solve, Game, Solution, Certificate, Explain, Compile, Verify, List as ListModule, SolveCode, Translate, Why, Size}
 
 -- The word is a whole number from 1 to 16, in decimal digits behind a plus or none, and so many
 -- workers are asked for; where there is no word, one is.
@@ -67,7 +67,7 @@ pub record IsExplainingOf (rows : List Row) (o : Explaining) : Type 0 where
   pub progress : IsSetBy (first_of (codes "progress") rows) o.progress
   pub places : IsSetBy (first_of (codes "places") rows) o.places
 
--- the property that is translated, and the files
+-- the property that is named, and the files
 pub record IsTranslatingOf (rows : List Row) (o : Translating) : Type 0 where
   pub property : option_map string_bytes o.property ≡ first_of (codes "property") rows
   pub files : AreWordsAt (codes "file") rows o.files
@@ -122,3 +122,4 @@ HasOptions rows (Input (ListModule counting)) = HasCounting rows counting
 HasOptions rows (Input (SolveCode o counting)) = IsSolvingOf rows o × HasCounting rows counting
 HasOptions rows (Input (Translate o)) = IsTranslatingOf rows o
 HasOptions rows (Input (Why o)) = IsShowingOf rows o
+HasOptions rows (Input (Size o)) = IsTranslatingOf rows o

@@ -14,7 +14,7 @@ use Rattle.pb_command_line.specs.declared.request.Request.TheVariants.{Page, Che
 use Rattle.pb_command_line.specs.declared.page.Page as pages
 use Rattle.pb_command_line.specs.declared.page.Page.TheVariants as page
 use Rattle.pb_command_line.specs.declared.request.Task.{Task}
-use Rattle.pb_command_line.specs.declared.request.Task.TheVariants.{Solve, Game, Solution, Certificate, Explain, Compile, Verify, List as ListModule, SolveCode, Translate, Why}
+use Rattle.pb_command_line.specs.declared.request.Task.TheVariants.{Solve, Game, Solution, Certificate, Explain, Compile, Verify, List as ListModule, SolveCode, Translate, Why, Size}
 use Rattle.pb_command_line.specs.declared.words.Usage.{Usage}
 use Rattle.pb_command_line.specs.Commands.{command_name}
 use Rattle.pb_command_line.specs.Line.{command_line}
@@ -40,6 +40,7 @@ command_of_task (ListModule counting) = command.List
 command_of_task (SolveCode o counting) = command.SolveCode
 command_of_task (Translate o) = command.Translate
 command_of_task (Why o) = command.Why
+command_of_task (Size o) = command.Size
 
 -- the command of a page
 abbrev pub command_of_page : pages.Page → Command
@@ -57,6 +58,7 @@ command_of (Input task) = command_of_task task
 abbrev pub task_names : Task → List (List ℕ)
 task_names (Translate o) = option_to_list (option_map string_bytes o.property)
 task_names (Why o) = option_to_list (option_map string_bytes o.property)
+task_names (Size o) = option_to_list (option_map string_bytes o.property)
 task_names _ = []
 
 -- and of a request
@@ -78,6 +80,7 @@ task_shows_progress (ListModule counting) = false
 task_shows_progress (SolveCode o counting) = o.progress
 task_shows_progress (Translate o) = false
 task_shows_progress (Why o) = o.progress
+task_shows_progress (Size o) = false
 
 abbrev pub shows_progress : Request → Bool
 shows_progress (Page page) = false
@@ -89,6 +92,7 @@ abbrev pub named_files : Request → List (List ℕ)
 named_files (Check o) = map string_bytes o.files.items
 named_files (Input (Translate o)) = map string_bytes o.files.items
 named_files (Input (Why o)) = map string_bytes o.files.items
+named_files (Input (Size o)) = map string_bytes o.files.items
 named_files _ = []
 
 -- `-` alone is standard input, as no name is
@@ -131,6 +135,7 @@ abbrev pub TakesFiles : Command → Type 0
 TakesFiles command.Check = ⊤
 TakesFiles command.Why = ⊤
 TakesFiles command.Translate = ⊤
+TakesFiles command.Size = ⊤
 TakesFiles _ = ⊥
 
 -- a word that is no option: it doesn't begin with a dash (45), or is the dash alone

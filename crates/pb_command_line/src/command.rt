@@ -29,6 +29,8 @@ pub enum Command {
     Check,
     /// Why a property of a model holds or doesn't.
     Why,
+    /// How large a model is.
+    Size,
     /// What a rule says.
     Rule,
     /// What the commands take and write.
@@ -57,6 +59,7 @@ impl Command {
             Command::Translate => "translate",
             Command::Check => "check",
             Command::Why => "why",
+            Command::Size => "size",
             Command::Rule => "rule",
             Command::Usage => "usage",
             Command::Version => "version",
@@ -82,6 +85,7 @@ impl Command {
             "translate" => Some(Command::Translate),
             "check" => Some(Command::Check),
             "why" => Some(Command::Why),
+            "size" => Some(Command::Size),
             "rule" => Some(Command::Rule),
             "usage" => Some(Command::Usage),
             "version" => Some(Command::Version),

@@ -243,6 +243,7 @@ pub(crate) fn command_line<'a>(alloc: Global) -> Result<clap::Command<'a>, Alloc
     let line = with(line, translating(alloc, "translate"));
     let line = with(line, checking(alloc, "check"));
     let line = with(line, showing(alloc, "why"));
+    let line = with(line, translating(alloc, "size"));
     let line = with(line, rule(alloc, "rule"));
     let line = with(line, usage(alloc, "usage"));
     with(line, Ok(plain(alloc, "version")))

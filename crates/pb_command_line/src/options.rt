@@ -32,7 +32,8 @@ pub struct Explaining {
     pub ghost few: { workers ≤ 16 },
 }
 
-/// The property that is translated, the first where none is named, and the files.
+/// The property that is named, if one is, and the files: of the commands that translate a property
+/// and that size a model.
 #[derive(Drop)]
 pub struct Translating {
     pub property: Option<String>,

@@ -165,7 +165,7 @@ pub(crate) fn explaining_of(options: &ArgMatches) -> Option<Explaining>
     })
 }
 
-/// Which property is translated, and of which files.
+/// Which property is named, and which files are.
 ///
 /// # Errors
 /// Memory was refused.

@@ -38,6 +38,7 @@ impl Request {
             Request::Check(options) => options.files.as_slice(),
             Request::Input(Task::Translate(options)) => options.files.as_slice(),
             Request::Input(Task::Why(options)) => options.files.as_slice(),
+            Request::Input(Task::Size(options)) => options.files.as_slice(),
             _ => &[],
         }
     }
@@ -68,6 +69,7 @@ pub enum Task {
     SolveCode(Solving, Counting),
     Translate(Translating),
     Why(Showing),
+    Size(Translating),
 }
 
 impl Task {
@@ -86,7 +88,7 @@ impl Task {
             Task::SolveCode(options, _) => options.progress,
             Task::Why(options) => options.progress,
             Task::Compile(_) | Task::Verify(_) | Task::List(_) => false,
-            Task::Translate(_) => false,
+            Task::Translate(_) | Task::Size(_) => false,
         }
     }
 }

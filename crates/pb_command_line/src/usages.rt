@@ -14,6 +14,10 @@ doesn't\n\
 translate [FILE ..]  a model: a property as a text: the one that is named, \
 or\n                     \
 the first\n\
+size [FILE ..]       a model: how many values each variable has, how many \
+states\n                     \
+and steps that makes, and how many equations each property\n                     \
+has, or the one that is named; nothing is explored\n\
 solve                a text: the report\n\
 game                 a text: the parity game of the reached instances, for\n                     \
 PGSolver or oink\n\
@@ -75,6 +79,13 @@ instances explored, and when building, solving and checking begin\n";
 pub const TRANSLATE_USAGE: &str = "pbsolve translate [FILE ..] [--property NAME] < INPUT\n\
 Input: a model\n\
 Output: a property as a text: the one that is named, or the first\n\
+--property NAME: only this property; check accepts the option more than once\n";
+
+pub const SIZE_USAGE: &str = "pbsolve size [FILE ..] [--property NAME] < INPUT\n\
+Input: a model\n\
+Output: how many values each variable has, how many states and steps that makes,\n  \
+and how many equations each property has, or the one that is named; nothing is\n  \
+explored\n\
 --property NAME: only this property; check accepts the option more than once\n";
 
 pub const SOLVE_USAGE: &str = "pbsolve solve [--workers N] [--solver NAME] [--reached] \
@@ -194,6 +205,7 @@ impl Command {
             Command::Check => CHECK_USAGE,
             Command::Why => WHY_USAGE,
             Command::Translate => TRANSLATE_USAGE,
+            Command::Size => SIZE_USAGE,
             Command::Solve => SOLVE_USAGE,
             Command::Game => GAME_USAGE,
             Command::Certificate => CERTIFICATE_USAGE,

@@ -87,6 +87,7 @@ fn request_for(alloc: Global, command: Command, options: &ArgMatches) -> Result<
         Command::Translate => Some(Task::Translate(translating_of(alloc, options)?)),
         Command::Check => return Ok(Request::Check(checking_of(alloc, options)?)),
         Command::Why => Some(Task::Why(showing_of(alloc, options)?)),
+        Command::Size => Some(Task::Size(translating_of(alloc, options)?)),
         Command::Rule => {
             let page = rule_of(options).map(Page::Rule);
             return page.map(Request::Page).ok_or(Usage.into());

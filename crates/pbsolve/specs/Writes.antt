@@ -12,6 +12,8 @@ use Rattle.pb_command_texts.specs.Writes.{WritesModule, WritesOfModule}
 use Rattle.pb_command_texts.specs.Writes.{WritesTextEvidence, WritesTextReport}
 use Rattle.pb_command_models.specs.Models.{IsUntranslated}
 use Rattle.pb_command_models.specs.Why.{IsUnshown, WritesWhy}
+use Rattle.pb_command_sizes.specs.Writes.{IsUnsizedInput}
+use Rattle.pb_model_sizes.specs.Refusals.{AreSizesOf}
 
 -- the command writes this text for the bytes
 abbrev pub Writes : Task → List ℕ → List ℕ → Type 0
@@ -30,6 +32,7 @@ Writes (task.Translate o) bytes written =
     IsTranslation (option_map string_bytes o.property) bytes written
 Writes (task.Why o) bytes written =
     WritesWhy o.lines (option_map string_bytes o.property) bytes written
+Writes (task.Size o) bytes written = AreSizesOf (option_map string_bytes o.property) bytes written
 
 -- what a fault says of the bytes for which the text was to be written
 abbrev pub IsRefusedFor : Task → List ℕ → SolveFault → Type 0
@@ -44,3 +47,4 @@ IsRefusedFor (task.List counting) = IsUnlisted counting
 IsRefusedFor (task.SolveCode o counting) = IsRefusedBytes counting
 IsRefusedFor (task.Translate o) = IsUntranslated (option_map string_bytes o.property)
 IsRefusedFor (task.Why o) = IsUnshown (option_map string_bytes o.property)
+IsRefusedFor (task.Size o) = IsUnsizedInput (option_map string_bytes o.property)

@@ -22,6 +22,7 @@ use pb_command_files::NamedFiles;
 use pb_command_line::{Request, Status, Task, request_of};
 use pb_command_models::{WhyOptions, check_text, translate_text, why_text};
 use pb_command_modules::{deliver, list_code, solve_code, verify_code};
+use pb_command_sizes::size_text;
 use pb_command_solver::{Context, Progress, Workers};
 use pb_command_texts::{
     ExplainOptions, ShortInput, TextInput, certificate_of, compile_text, explain_text, game_of,
@@ -100,6 +101,9 @@ fn task_answer<R: Threads + Sync, G: Progress + Sync, O: Sink>(
             let lines = options.lines;
             let shown = WhyOptions { workers, lines };
             why_text(context, input, name_of(&options.property), shown, out)
+        }
+        Task::Size(options) => {
+            size_text(context.alloc, input.bytes, name_of(&options.property), out)
         }
     }
 }

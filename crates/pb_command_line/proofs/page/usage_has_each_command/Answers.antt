@@ -20,6 +20,7 @@ has_line command.SolveCode = refl
 has_line command.Translate = refl
 has_line command.Check = refl
 has_line command.Why = refl
+has_line command.Size = refl
 has_line command.Rule = refl
 has_line command.Usage = refl
 has_line command.Version = refl

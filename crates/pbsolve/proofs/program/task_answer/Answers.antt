@@ -6,6 +6,8 @@ use Rattle.pb_command_modules.specs.Delivery.{Delivers}
 use Rattle.pb_command_models.specs.Models.{IsUntranslated}
 use Rattle.pbsolve.specs.Writes.{IsRefusedFor, Writes}
 use Rattle.pb_command_models.specs.Why.{IsUnshown, WritesWhy}
+use Rattle.pb_command_sizes.specs.Writes.{IsUnsizedInput}
+use Rattle.pb_model_sizes.specs.Refusals.{AreSizesOf}
 use Rattle.pbsolve.proofs.program.task_answer.Goals as goal
 
 pub returns-in-Why : goal.returns-in-Why
@@ -32,6 +34,22 @@ returns-in-Translate g c = record {
       (sym c.in-Translate.is)
       (subst (λ (n : Option (List ℕ)). IfInputRefused c.translate_text.result (IsUntranslated n c.args.input.bytes.now))
       c.name_of.ensures c.translate_text.ensures.text.1);
+  named = search rules;
+}
+
+-- and what is written of a size
+pub returns-in-Size : goal.returns-in-Size
+returns-in-Size g c = record {
+  written =
+      subst (λ (t : Task). Delivers (Writes t c.args.input.bytes.now) c.size_text.result g.O.Sink c.args.out.now c.size_text.new.writer)
+      (sym c.in-Size.is)
+      (subst (λ (n : Option (List ℕ)). Delivers (AreSizesOf n c.args.input.bytes.now) c.size_text.result g.O.Sink c.args.out.now c.size_text.new.writer)
+      c.name_of-in-Size.ensures c.size_text.ensures.sizes.0);
+  refused =
+      subst (λ (t : Task). IfInputRefused c.size_text.result (IsRefusedFor t c.args.input.bytes.now))
+      (sym c.in-Size.is)
+      (subst (λ (n : Option (List ℕ)). IfInputRefused c.size_text.result (IsUnsizedInput n c.args.input.bytes.now))
+      c.name_of-in-Size.ensures c.size_text.ensures.sizes.1);
   named = search rules;
 }
 

@@ -1,0 +1,9 @@
+pub mod DigitLemmas
+pub mod Capped
+pub mod Groups
+pub mod FormulaRows
+pub mod Factors
+pub mod Translated
+pub mod Refused
+pub mod Lines
+pub mod Sorts
