@@ -6,8 +6,8 @@ import re
 
 from generated_terms import DECLARATIONS, KIND, VALUES, Terms
 
-# What stands in `val(..)` as a test: it begins as a formula might, or has a connective or a quantifier.
-IN_VAL = re.compile(r"^[(!-]|^(true|false)|&&|\|\||=>|forall|exists")
+# What stands in `val(..)` as a test: it begins as a formula might, or has a connective or a quantifier, or counts.
+IN_VAL = re.compile(r"^[(!-]|^(true|false)|&&|\|\||=>|forall|exists|count")
 # Lines of a model's text that declare its state, are a step and give its initial state.
 STATE, STEP, INIT = re.compile(r"^state (.*);$", re.M), re.compile(r"^  (s\d+(?:\(.*?\))?): (.*) -> (.*);$", re.M), re.compile(r"^init (.*);$", re.M)
 # A state that a step led to outside the ranges, the formula that holds there whatever the ranges are, and the one that doesn't.
@@ -35,7 +35,7 @@ def widened(text, generator, bits):
 
     text = STATE.sub(lambda found: f"state {found[1]}, {', '.join(f'{name}: {sort}' for name, sort, _, _ in wide)};", text, count=1)
     text = INIT.sub(lambda found: f"init {found[1]}, {', '.join(str(value) for *_, value in wide)};", text, count=1)
-    return STEP.sub(step, text).replace(DECLARATIONS, DECLARATIONS + declared, 1)
+    return STEP.sub(step, text).replace("model\n", declared + "model\n", 1)
 
 
 class Model:

@@ -1,4 +1,5 @@
 """Models with arrays, definitions, steps by their values and quantified formulas, from a generator: with all states and where each step leads.
+Some have constants and sorts by bounds, assignments for all values, terms that count, and definitions where there is no state.
 
 Of tests/fuzzing_models.py. What they mean was written anew from docs/MANUAL.md, "Models", by values alone: an array is a table, a definition
 a function, and nothing is put in for a name."""
@@ -14,6 +15,8 @@ ARRAYS = (
 )
 SCALARS = (("n", (), "Nat"), ("m", (), "Small"), ("d", (), "D"), ("b", (), "Bool"))
 LARGEST = 400
+# The declarations of `generated_terms.py` by constants and bounds.
+BY_CONSTANTS = "%range Nat 0 2\nconst one = 1, two = one + 1;\nsort D = struct a?is_a | c; Small = -one .. one; One = one .. two - 1;\n"
 
 
 def word(value):
@@ -36,7 +39,16 @@ class ProtocolTerms(Terms):
             parts = [self.inside(scope, sort, depth - 1) for sort in sorts]
             text = f"{name}({', '.join(text for text, _ in parts)})"
             return text, lambda known: value(known, *(part(known) for _, part in parts))
+        if kind == "int" and depth and self.generator.below(8) == 0:
+            return self.counted(scope, depth)
         return super().term(scope, kind, depth, may_quantify)
+
+    def counted(self, scope, depth):
+        """For how many values of a variable of a new name a term is true."""
+        self.count += 1
+        name, sort = f"k{self.count}", self.generator.one_of(tuple(VALUES))
+        text, part = self.term({**scope, name: sort}, "bool", depth - 1, True)
+        return f"count {name}: {sort} . {text}", lambda values: sum(part({**values, name: it}) for it in VALUES[sort])
 
     def inside(self, scope, sort, depth):
         """A term that is seen to have a value of the sort."""
@@ -82,14 +94,19 @@ class Protocol(Model):
         for name, sorts, sort in self.declared:
             if sorts:
                 self.terms.functions.append((name, sorts, sort, lambda known, *index, name=name: known[name, index]))
-        definitions = "".join([self.definition(f"e{number}") for number in range(generator.below(3))])
+        self.values = [(f"c{number}", self.generator.one_of(tuple(VALUES))) for number in range(generator.below(3))]
+        self.values = [(name, sort, generator.one_of(VALUES[sort])) for name, sort in self.values]
+        for name, sort, value in self.values:
+            self.terms.functions.append((name, (), sort, lambda known, value=value: value))
+        definitions = "".join(f"{name} = {word(value)};\n" for name, _, value in self.values)
+        definitions += "".join([self.definition(f"e{number}") for number in range(generator.below(3))])
         steps = [self.step(f"s{number}") for number in range(1 + generator.below(3))]
         self.owned = {name: own for name, own, _, _ in steps}
         self.next = {(name, own): leads for name, _, _, each in steps for own, leads in each.items()}
         self.initial, initial = self.initial_state()
         self.properties = [self.fixpoint((), 3 + generator.below(3)) if generator.below(4) else self.formula((), 1, 4) for _ in range(3)]
         self.text = (
-            f"{DECLARATIONS}model\nstate {', '.join(self.declaration(it) for it in self.declared)};\n{'define ' if definitions else ''}{definitions}"
+            f"{generator.one_of((DECLARATIONS, BY_CONSTANTS))}model\nstate {', '.join(self.declaration(it) for it in self.declared)};\n{'define ' if definitions else ''}{definitions}"
             f"step\n{''.join(text for _, _, text, _ in steps)}init {', '.join(initial)};\n"
             + "".join(f"property p{number} = {self.printed(it)};\n" for number, it in enumerate(self.properties))
         )
@@ -134,8 +151,10 @@ class Protocol(Model):
             if not is_open(known):
                 return set()
             after = dict(zip(self.elements, state))
-            for variable, index, _, value in assignments:
-                after[variable, tuple(it(known) for _, it in index)] = value(known)
+            for variable, index, _, value, bound in assignments:
+                for copy in itertools.product(*(VALUES[sort] for sort in bound.values())):
+                    here = {**known, **dict(zip(bound, copy))}
+                    after[variable, tuple(it(here) for _, it in index)] = value(here)
             after = tuple(after.values())
             return {after if after in self.inside else OUTSIDE}
 
@@ -143,7 +162,8 @@ class Protocol(Model):
             values: {state: leads(dict(zip(own, values)), state) for state in self.states}
             for values in itertools.product(*(VALUES[sort] for sort in own.values()))
         }
-        assigned = ", ".join(f"{self.element(variable, index)} := {text}" for variable, index, text, _ in assignments) or "skip"
+        for_all = lambda bound: f"forall {self.variables(bound)[1:-1]} . " if bound else ""
+        assigned = ", ".join(f"{for_all(bound)}{self.element(variable, index)} := {text}" for variable, index, text, _, bound in assignments) or "skip"
         return name, tuple(own.values()), f"  {name}{self.variables(own)}: {guard} -> {assigned};\n", each
 
     def element(self, variable, index):
@@ -154,10 +174,18 @@ class Protocol(Model):
         found = []
         for _ in range(self.generator.below(4)):
             name, sorts, sort = self.generator.one_of(self.declared)
-            index = [self.terms.inside(scope, it, self.generator.below(2)) for it in sorts]
-            if self.element(name, index) not in [self.element(variable, other) for variable, other, _, _ in found]:
-                found.append((name, index, *self.assigned(scope, name, sort, index)))
+            bound = {f"f{len(found)}{number}": it for number, it in enumerate(sorts) if self.generator.below(3) == 0}
+            inner = {**scope, **bound}
+            index = [self.index(f"f{len(found)}{number}", it, inner) for number, it in enumerate(sorts)]
+            if self.element(name, index) not in [self.element(variable, other) for variable, other, _, _, _ in found]:
+                found.append((name, index, *self.assigned(inner, name, sort, index), bound))
         return found
+
+    def index(self, name, sort, scope):
+        """The variable itself, where the assignment has one for this index; else a term."""
+        if name in scope:
+            return name, lambda known: known[name]
+        return self.terms.inside(scope, sort, self.generator.below(2))
 
     def assigned(self, scope, name, sort, index):
         if KIND[sort] != "int" or self.generator.below(2):
@@ -175,6 +203,7 @@ class Protocol(Model):
         for _, sorts, sort in self.declared:
             scope = {f"i{number}": it for number, it in enumerate(sorts)}
             fitting = [(name, lambda known, name=name: known[name]) for name, it in scope.items() if it == sort]
+            fitting += [(name, lambda known, value=value: value) for name, it, value in self.values if it == sort]
             value = self.generator.one_of(VALUES[sort])
             text, value = self.generator.one_of([*fitting, (word(value), lambda known, value=value: value)])
             texts.append(text)
@@ -208,7 +237,8 @@ class Protocol(Model):
             name = self.generator.one_of(known)
             return name, lambda values: values[name]
         value = self.generator.one_of(VALUES[sort])
-        return self.generator.one_of((("_", None), (word(value), lambda values: value)))
+        defined = [(name, lambda values, value=value: value) for name, it, value in self.values if it == sort]
+        return self.generator.one_of((("_", None), (word(value), lambda values: value), *defined))
 
     def formula(self, around, sign, depth):
         if depth and self.generator.below(6) == 0 and len(self.bound) < 2:

@@ -15,6 +15,8 @@ BINARY = {"==": operator.eq, "!=": operator.ne, "<": operator.lt, "<=": operator
           "&&": lambda x, y: x and y, "||": lambda x, y: x or y, "=>": lambda x, y: not x or y}
 CALLED = {"if": lambda c, x, y: x if c else y, "min": min, "max": max, "abs": abs, "succ": lambda x: x + 1,
           "pred": lambda x: x - 1, "Pos2Nat": lambda x: x, "Pos2Int": lambda x: x, "Nat2Int": lambda x: x}
+# What may stand behind a state variable `count`, so that it isn't the word.
+BEHIND = {"until", "leads_to", "div", "mod"}
 RANGE = re.compile(r"(?m)^%range\s+(\S+)\s+(-?\d+)\s+(-?\d+)\s*$")
 TOKEN = re.compile(r"\s+|%[^\n]*|([A-Za-z_][\w']*|\d+|:=|->|=>|&&|\|\||[=!<>]=|.)")
 
@@ -87,11 +89,14 @@ class Model:
         self.tokens = [token for token in TOKEN.findall(text) if token] + [""]
         self.sorts, self.functions = {"Bool": [False, True]}, dict(CALLED)
         self.values, self.steps, self.properties = {"false": False, "true": True}, {}, {}
+        self.is_plain, self.definitions, self.known = self.tokens[0] != "const", {}, {}
+        if self.taken("const"):
+            self.separated(",", self.read_constant)
+            self.take(";")
         while self.taken("sort"):
             while self.tokens[1] == "=":
                 self.read_sort()
         self.take("model", "state")
-        self.is_plain, self.definitions, self.known = True, {}, {}
         self.declared = self.state_variables()
         self.places = self.element_places()
         self.state = [(self.told(name, index), sort) for name, indices, sort in self.declared for index in self.tuples(indices)]
@@ -111,11 +116,11 @@ class Model:
             self.take(":")
             guard = self.data()
             self.take("->")
-            self.steps[name] = own, guard, [] if self.taken("skip") else self.separated(",", self.assignment)
+            self.steps[name] = own, guard, [] if self.taken("skip") else sum(self.separated(",", self.assigned), [])
             self.take(";")
         self.take("init")
-        terms = self.separated(",", self.data)
-        self.initial = tuple(term({**self.values, **dict(zip([i for i, _ in indices], index))})
+        terms, start = self.separated(",", self.data), self.at_start()
+        self.initial = tuple(term({**start, **dict(zip([i for i, _ in indices], index))})
                              for (_, indices, _), term in zip(self.declared, terms) for index in self.tuples(indices))
         while self.taken(";") and self.taken("property"):
             name = self.take()
@@ -139,10 +144,24 @@ class Model:
             found.append(part())
         return found
 
+    def read_constant(self):
+        name = self.take()
+        self.take("=")
+        self.values[name] = self.data()(self.values)
+
+    def read_bounds(self, name):
+        """A sort of the numbers from one bound to another."""
+        low = self.data(3)(self.values)
+        self.take(".", ".")
+        self.ranges[name] = range(low, self.data(3)(self.values) + 1)
+        self.sorts[name] = "Int"
+
     def read_sort(self):
         name = self.take()
         self.take("=")
-        if self.taken("struct"):
+        if not self.tokens[0] == "struct" and self.tokens[1] != ";":
+            self.read_bounds(name)
+        elif self.taken("struct"):
             self.sorts[name] = self.separated("|", lambda: (self.take(), self.taken("?") and self.take()))
             for value, recogniser in self.sorts[name]:
                 self.functions[recogniser] = lambda x, value=value: x == value
@@ -192,11 +211,29 @@ class Model:
         for name, places in self.places.items():
             last = max(places.values())
             found[name] = state[last] if () in places else lambda *index, at=places, last=last: state[at.get(index, last)]
+        return self.with_definitions(found)
+
+    def with_definitions(self, found):
         base = dict(found)
         for name, (parameters, value) in self.definitions.items():
             found[name] = Defined(parameters, value, base)
             base = dict(found)
         return found
+
+    def at_start(self):
+        """What names stand for where there is no state."""
+        return self.with_definitions(dict(self.values))
+
+    def assigned(self):
+        """An assignment, or one for each tuple of values, each with its terms at these."""
+        if not self.taken("forall"):
+            return [self.assignment()]
+        self.is_plain = False
+        variables = self.variables(".")
+        name, index, value = self.assignment()
+        at = lambda x, own: lambda names: x({**names, **own})
+        copies = [dict(zip([x for x, _ in variables], own)) for own in self.tuples(variables)]
+        return [(name, [at(x, own) for x in index], at(value, own)) for own in copies]
 
     def assignment(self):
         """What is assigned: a state variable, the terms of its index, and the term whose value it gets."""
@@ -252,10 +289,24 @@ class Model:
                                       [dict(zip([y for y, _ in bound], own)) for own in self.tuples(bound)][::-1], lambda names: word == "forall")
             x = self.data()
             return copies
+        if self.counts(word):
+            return self.counted()
         if self.taken("("):
             arguments = self.separated(",", self.data)
             return self.take(")") and self.called(word, arguments)
         return (lambda names: int(word)) if word.isdigit() else named(word)
+
+    def counts(self, word):
+        """Whether a word counts, and is no name."""
+        return word == "count" and re.match(r"[A-Za-z_]", self.tokens[0]) and self.tokens[0] not in BEHIND
+
+    def counted(self):
+        """For how many tuples of values a term is true."""
+        self.is_plain = False
+        bound = self.variables(".")
+        copies = [dict(zip([y for y, _ in bound], own)) for own in self.tuples(bound)]
+        x = self.data()
+        return lambda names: sum(x({**names, **own}) for own in copies)
 
     def called(self, word, arguments):
         def value(names):
@@ -373,7 +424,7 @@ class Model:
         if f.kind in ("mu", "nu"):
             return Node(f.kind, f.parts[0], self.written_out(f.parts[1], around))
         if f.kind in ("[", "<"):
-            chosen, names = f.parts[0], {**self.values, **around}
+            chosen, names = f.parts[0], {**self.at_start(), **around}
             return Node(f.kind, lambda name, own: chosen(name, own, names), self.written_out(f.parts[1], around))
         if f.kind in ("forall", "exists"):
             found = Node("data", lambda names: f.kind == "forall", f.kind == "forall")

@@ -1,4 +1,5 @@
 """Models with their data and sets of steps as they are written, read by the reader of `tools/models.py`."""
+import functools
 from dataclasses import dataclass
 
 from models import RANGE, TOKEN, Model
@@ -80,6 +81,8 @@ class WrittenModel(Model):
         if word == "(":
             x = self.data()
             return self.take(")") and x
+        if self.counts(word):
+            return self.counted()
         if word in QUANTIFIERS:
             return Term(word, (tuple(self.variables(".")), self.data()), place)
         if self.taken("("):
@@ -89,9 +92,36 @@ class WrittenModel(Model):
             raise Fault(f"data are expected here, not {word or 'the end'!r}", place)
         return Term("value", (int(word),), place) if word.isdigit() else Term("name", (word,), place)
 
+    def assigned(self):
+        if not self.taken("forall"):
+            return [self.assignment()]
+        copies = self.copies(self.variables("."))
+        name, index, value, place = self.assignment()
+        return [(name, [substituted(i, own) for i in index], substituted(value, own), place) for own in copies]
+
+    def copies(self, variables):
+        """What variables stand for, by each tuple of their values."""
+        return [{name: value_of(value) for (name, _), value in zip(variables, own)} for own in self.tuples(variables)]
+
     def assignment(self):
         place = self.place()
         return (*super().assignment(), place)
+
+    def counted(self):
+        """Counting is a sum, to which each tuple of values at which the term is true adds one."""
+        copies, x = self.copies(self.variables(".")), self.data()
+        ones = [Term("call", ("if", substituted(x, own), value_of(1), value_of(0)), x.place) for own in copies]
+        return functools.reduce(lambda one, other: Term("+", (one, other), x.place), ones)
+
+    def at_start(self):
+        """Values, and those of definitions without parameters that have one by themselves."""
+        known = dict(self.values)
+        for name, (parameters, term) in self.definitions.items():
+            try:
+                known |= {name: term(known)} if not parameters else {}
+            except Fault:
+                continue
+        return known
 
     def steps_named(self):
         return Steps("||", tuple(self.separated("||", self.set_of_steps)))
