@@ -11,7 +11,7 @@ Common mistakes, and what to write instead:\n\
 - nothing that shows, and P01 at line 1 column 1: a file without a byte order\n  \
 mark, which some editors write unseen, and in UTF-8, not UTF-16\n\
 Common mistakes in a model, and what to write instead:\n\
-- `#define n 3`, `a & b`, `~a`: `define n = 3`, `a && b`, `!a`\n";
+- `#define n 3`, `a & b`, `~a`: `const n = 3;`, `a && b`, `!a`\n";
 
 pub const P02_WORDS: &str = "P02: a token that can't occur here; the end of the text counts as \
 one\n\
@@ -60,7 +60,7 @@ has names, `true`, `!`, `||` and brackets\n\
 - `always possibly p`, `p until q until r`: `always (possibly p)`,\n  \
 `p until (q until r)`\n\
 - `always == 1`, where `always` is a state variable: `val(always == 1)`\n\
-- `sort Id = 1..3`, `n: 1..3`: `%range Nat 1 3`, a line by itself, and `n: Nat`\n\
+- `n: 1..3`: `sort Id = 1 .. 3;`, and `n: Id`\n\
 - `x := 1; y := 2`, `x := 1 && y := 2`: `x := 1, y := 2`: a comma between\n  \
 assignments\n\
 - `x++`, `x += 1`, `x' = x + 1`: `x := x + 1`\n\
@@ -68,8 +68,8 @@ assignments\n\
 `x := if(b, 1, 0)`\n\
 - `forall j != i . p`, `exists j in Id . p`: `forall j: Id . j != i => p`,\n  \
 `exists j: Id . p`\n\
-- `const n = 3`, `model lock`, `process P`, `rule try`: `define n = 3`; a model\n  \
-has no name, and all steps follow one `step`\n\
+- `const n: Nat = 3`, `model lock`, `process P`, `rule try`: `const n = 3;`\n  \
+before the sorts; a model has no name, and all steps follow one `step`\n\
 - `free()`, `no_deadlock()`: `free`, `no_deadlock`: no brackets without\n  \
 arguments\n\
 - `AG p`, `AF p`, `EF p`, `A[] p`, `A<> p`, `E<> p`, `p --> q`: neither CTL nor\n  \
@@ -87,14 +87,16 @@ pub const P04_WORDS: &str = "P04: brackets, argument lists, quantifiers, ! or un
 more than 64\n  \
 deep, or more than 8,192 operators with two operands in one equation or in\n  \
 init\n\
-In a model also: [, <, the bracket of fair, mu, nu, forall and exists open a\n  \
-level each; a step, a definition, init and a property may have 8,192 operators\n  \
-each, and so may a term or a formula with its quantifiers and definitions\n  \
-written out, with those of each index that isn't written as a value, also\n  \
-where it is decided, and the negation of a property, in which a ! stands\n  \
-before each test, and which refuses that property alone (NAME refused P04);\n  \
-definitions that use others may nest 200 levels. Place: the token; the use,\n  \
-the quantifier or the operator that passes it\n\
+In a model also: [, <, the bracket of fair, mu, nu, count, and in a term or a\n  \
+formula forall and exists open a level each; the assignments of a step may be\n  \
+8,192 with one for each tuple of a forall's values; a step, a definition, init\n  \
+and a property may have 8,192 operators each, and so may a term or a formula\n  \
+with its quantifiers and definitions written out, with those of each index\n  \
+that isn't written as a value, also where it is decided, and the negation of a\n  \
+property, in which a ! stands before each test, and which refuses that\n  \
+property alone (NAME refused P04); definitions that use others may nest 200\n  \
+levels. Place: the token; the use, the quantifier, the assignment's forall or\n  \
+the operator that passes it\n\
 What to do: split the equation: give a part an equation of its own with the same\n  \
 sign, directly after it\n\
 $ python3 -c \"print('pbes nu X = ' + 'X && ' * 8193 + 'X; init X;')\" | pbsolve solve\n\
@@ -114,9 +116,10 @@ pub const T01_WORDS: &str = "T01: a name that isn't declared; in a formula also 
 recogniser or a\n  \
 function outside val(..). Place: the name\n\
 In a model also: an unknown step; an assignment to what is no state variable; in\n  \
-data a name that nothing declares or that a definition further down has, also\n  \
-the name of an equation in the property's text or of a fixpoint that isn't\n  \
-around. Place: the name\n\
+data a name that nothing declares or that a definition or a constant further\n  \
+down has; in init and in a set of steps a definition that depends on the\n  \
+state; also the name of an equation in the property's text or of a fixpoint\n  \
+that isn't around. Place: the name\n\
 What to do: declare it, or put val(..) round it; a recogniser needs its argument\n\
 $ echo 'pbes nu X = Z; init X;' | pbsolve solve\n\
 T01 line 1 column 13\n\
@@ -129,7 +132,7 @@ Common mistakes in a model, and what to write instead:\n\
 - a fixpoint's name that no fixpoint around has: the name after `mu` or `nu`,\n  \
 spelled as there\n\
 - `at := idle`, `at(_) := idle`, where `at` is an array:\n  \
-`at(c1) := idle, at(c2) := idle`: an assignment for each element\n";
+`forall c: C . at(c) := idle`\n";
 
 pub const T02_WORDS: &str = "T02: a name declared twice in its name space (sorts; predicate \
 variables;\n  \
@@ -137,9 +140,12 @@ enumerators and recognisers; recognisers and function names; a list of\n  \
 variables), or a second range for one sort. Place: the later name; column 1 of\n  \
 the range line\n\
 In a model also: two steps, two properties, two state variables or definitions\n  \
-of one name; two assignments to one variable, or with the same index; a step's\n  \
-own variable, a parameter, an index, a fixpoint or a formula's quantifier with\n  \
-the name of a state variable or definition, also where a word is used that is\n  \
+of one name; two assignments to one variable, or with the same index; an\n  \
+assignment's variable that occurs in no index; an enumerator, recogniser,\n  \
+state variable, definition or variable with a constant's name; a definition\n  \
+with an enumerator's; a line %range of a sort with bounds; a step's own\n  \
+variable, a parameter, an index, a fixpoint or a formula's quantifier with the\n  \
+name of a state variable or definition, also where a word is used that is\n  \
 one's name; names of elements or steps that are one when they are written out,\n  \
 as x'1 beside x(i: Id); where the model is written out or has more than eight\n  \
 variables, a state variable with the name of an enumerator, and _ as the name\n  \
@@ -164,10 +170,10 @@ pub const T04_WORDS: &str = "T04: a wrong kind: == of two structs, order on Bool
 enumerators, a number\n  \
 for a Bool. Place: the operator, quantifier, function or val; an argument's\n  \
 first token\n\
-In a model also: a guard that is no Bool, an operand of its &&, ||, => or ! that\n  \
-is none; a test that is none; a value of another kind than its variable, index\n  \
-or parameter. Place: the step's name, the connective; the test; the value's\n  \
-first token\n\
+In a model also: a constant or a bound that is no number of 32 bits; a guard\n  \
+that is no Bool, an operand of its &&, ||, => or ! that is none; a test that\n  \
+is none; a value of another kind than its variable, index or parameter. Place:\n  \
+the step's name, the connective; the test; the value's first token\n\
 What to do: compare like with like; write val(..) round data in formulas\n\
 $ echo 'pbes nu X = val(true < false); init X;' | pbsolve solve\n\
 T04 line 1 column 22\n\
@@ -226,7 +232,7 @@ argument\n\
 Common mistakes in a model, and what to write instead:\n\
 - `line == free`, where `line` is an array: `line(c) == free`, for a c\n\
 - `at := idle`, `at(_) := idle`, where `at` is an array:\n  \
-`at(c1) := idle, at(c2) := idle`: an assignment for each element\n";
+`forall c: C . at(c) := idle`\n";
 
 pub const T09_WORDS: &str = "T09: a divisor that may be 0 or less by its range; a term's range \
 is computed by\n  \
@@ -247,9 +253,9 @@ T10 line 2 column 31\n";
 pub const T11_WORDS: &str = "T11: an argument of init outside its range. Place: its first \
 token\n\
 In a model also: an index that may leave its sort, or a value in a set of steps\n  \
-that does; of values of init that are put into one number, and of which none\n  \
-is written outside its range, the first that is computed. Place: its first\n  \
-token\n\
+that does; bounds of a sort that aren't in order; of values of init that are\n  \
+put into one number, and of which none is written outside its range, the first\n  \
+that is computed. Place: its first token\n\
 What to do: widen the range, or correct init\n\
 $ printf '%%range Int 0 9\\npbes nu X(n: Int) = X(n); init X(10);' | pbsolve solve\n\
 T11 line 2 column 34\n\

@@ -1,5 +1,0 @@
-use Rattle.pb_model_spelling.proofs.Walk.{reading_words}
-use Rattle.pb_model_spelling.proofs.read_protocols_are_writable.Goals as goal
-
-pub returns : goal.returns
-returns c = reading_words

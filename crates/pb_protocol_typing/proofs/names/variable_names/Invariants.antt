@@ -1,9 +1,0 @@
-use Rattle.std.proofs.Common.{◌≡◌, ◌++◌, drop}
-use Rattle.pb_text_tree.specs.Form.{variable_forms}
-use Rattle.pb_typing_declarations.specs.Declarations.{variable_names}
-use Rattle.pb_protocol_typing.specs.View.{names_in}
-use Rattle.pb_protocol_typing.proofs.names.variable_names.Given as goal
-
--- the names so far, and those of the groups that are left
-abbrev pub invariant-loop-group : goal.invariant-loop-group
-invariant-loop-group l = variable_names (variable_forms l.groups) ≡ names_in l.names.items ++ variable_names (variable_forms (drop l.group-index l.groups))
