@@ -1,6 +1,7 @@
 -- Terms in which digits stand for names have words.
-use Rattle.std.proofs.Common.{◌≡◌, ℕ, zero, suc, ◌+◌, ◌≤◌, Bool, true, false, if◌then◌else◌, List, [], ◌∷◌, length, refl, arith}
+use Rattle.std.proofs.Common.{◌≡◌, ℕ, zero, suc, ◌+◌, ◌*◌, ◌≤◌, le_trans, le_of_lt, mul-le-mul_right, Bool, true, false, if◌then◌else◌, List, [], ◌∷◌, length, refl, arith}
 use Rattle.std.specs.Prelude.{ℤ, pos, negsuc, ◌+ℤ◌, ◌-ℤ◌, ◌≤ℤ◌, Option, Some, None, codes, nat_eq, nat_lt, ◌^◌}
+use Rattle.std.proofs.lemmas.Bool.{ltb-true}
 use Rattle.std.proofs.lemmas.Bool.Decides.{nat_tests}
 use Rattle.std.proofs.lemmas.Int.{ints}
 use Rattle.pb_base_values.specs.Carrier.{of_bool}
@@ -9,7 +10,7 @@ use Rattle.pb_text_meaning.specs.Syntax.{Name, same_name, Variable, Operator, Te
 use Rattle.pb_text_printer.specs.Sayable.{Each}
 use Rattle.pb_model_meaning.specs.Syntax.{Formula}
 use Rattle.pb_model_spelling.specs.Writable.{IsWord, TermWritable, AllWritable, ModalWritable}
-use Rattle.pb_protocol_packing.specs.Numbers.{Kind, Boolean, Enumeration, Whole, number, times, divided, rest, raised, lowered, either, enumerator_at, place_of, from_number, place_among, place_or, place_number, computed_number, constant_number, number_or, to_number, is_one_of, test_of}
+use Rattle.pb_protocol_packing.specs.Numbers.{Kind, Boolean, Enumeration, Whole, number, times, divided, rest, raised, lowered, either, enumerator_at, place_of, from_number, place_among, place_or, place_number, computed_number, constant_number, number_or, to_number, between, scaled, is_zero, plus, plus_all, is_one_of, test_of}
 use Rattle.pb_protocol_packing.specs.Said.{Digit, Scope, digit_for, term_for, hidden, compared_place, by_place, compared, digit_in, said, all_said}
 use Rattle.pb_protocol_packing.specs.Packing.{formula_said}
 use Rattle.pb_protocol_laws.proofs.Spelled.{IsWritableNumber}
@@ -32,15 +33,43 @@ times-writable x n h k = by (nat_eq n 1)
     by true = h
     by false = (h, k)
 
-pub divided-writable : (x : Term) (n : ℕ) → TermWritable x → n ≤ largest_number → TermWritable (divided x n)
+divided-writable : (x : Term) (n : ℕ) → TermWritable x → n ≤ largest_number → TermWritable (divided x n)
 divided-writable x n h k = by (nat_eq n 1)
   where
     by : (b : Bool) → TermWritable (if b then x else Term.Binary Operator.Div x (Term.Number n))
     by true = h
     by false = (h, k)
 
-pub rest-writable : (x : Term) (n : ℕ) → TermWritable x → n ≤ largest_number → TermWritable (rest x n)
+rest-writable : (x : Term) (n : ℕ) → TermWritable x → n ≤ largest_number → TermWritable (rest x n)
 rest-writable x n h k = (h, k)
+
+pub between-writable : (limit n m : ℕ) (x : Term) → TermWritable x → n ≤ largest_number → m ≤ largest_number → TermWritable (between limit n m x)
+between-writable limit n m x h k l = divided-writable (if nat_eq n limit then x else rest x n) m (by (nat_eq n limit)) l
+  where
+    by : (b : Bool) → TermWritable (if b then x else rest x n)
+    by true = h
+    by false = rest-writable x n h k
+
+-- a digit below a limit, times what it counts
+pub scaled-writable : (limit : ℕ) (x : Term) (n : ℕ) → TermWritable x → n ≤ largest_number → limit * n ≤ largest_number → TermWritable (scaled limit x n)
+scaled-writable limit (Term.Number d) n h k most = by (nat_lt d limit) refl
+  where
+    by : (b : Bool) → nat_lt d limit ≡ b → TermWritable (if b then Term.Number (d * n) else times (Term.Number d) n)
+    by true e = le_trans (mul-le-mul_right n (le_of_lt (ltb-true d limit e))) most
+    by false e = times-writable (Term.Number d) n h k
+scaled-writable limit x n h k most = times-writable x n h k
+
+plus-writable : (x y : Term) → TermWritable x → TermWritable y → TermWritable (plus x y)
+plus-writable x y h k = by (is_zero x) (is_zero y)
+  where
+    by : (a b : Bool) → TermWritable (if a then y else (if b then x else Term.Binary Operator.Plus x y))
+    by true b = k
+    by false true = h
+    by false false = (h, k)
+
+pub plus-all-writable : (x : Term) (ys : List Term) → TermWritable x → Each TermWritable ys → TermWritable (plus_all x ys)
+plus-all-writable x [] h k = h
+plus-all-writable x (y ∷ ys) h k = plus-all-writable (plus x y) ys (plus-writable x y h k.0) k.1
 
 low-writable : (v : ℤ) → IsLow v → TermWritable (number v)
 low-writable v h = let a = h.0 in let b = h.1 in number-writable v (omega (arith, ints), omega (arith, ints))

@@ -1,6 +1,6 @@
 -- Packed models have words.
 use Rattle.std.proofs.Common.{◌≡◌, ℕ, zero, suc, ◌*◌, ◌≤◌, Bool, true, false, if◌then◌else◌, List, [], ◌∷◌, ◌++◌, map, length, take, drop, refl, sym, subst, arith}
-use Rattle.std.specs.Prelude.{ℤ, pos, ◌+ℤ◌, ◌-ℤ◌, int_le, Option, Some, None, codes, is_some}
+use Rattle.std.specs.Prelude.{nat_eq, ℤ, pos, ◌+ℤ◌, ◌-ℤ◌, int_le, Option, Some, None, codes, is_some}
 use Rattle.std.specs.List.{list_any, list_all}
 use Rattle.std.proofs.lemmas.Int.{ints}
 use Rattle.std.proofs.lemmas.List.{take-append-drop}
@@ -17,9 +17,9 @@ use Rattle.pb_model_translation.specs.Names.{primes, longest}
 use Rattle.pb_model_translation.specs.Translation.{term_or_name}
 use Rattle.pb_model_spelling.specs.Writable.{IsWord, VariableWritable, TermWritable, AllWritable, EnumeratorWritable, DeclarationWritable, RangeWritable, AssignmentWritable, StepWritable, ModelWritable}
 use Rattle.pb_protocol_packing.specs.Apart.{is_among}
-use Rattle.pb_protocol_packing.specs.Numbers.{Kind, Boolean, Enumeration, Whole, divided, rest, is_surely_within, test_of}
+use Rattle.pb_protocol_packing.specs.Numbers.{Kind, Boolean, Enumeration, Whole, times, between, to_number, is_surely_within, test_of}
 use Rattle.pb_protocol_packing.specs.Said.{Scope, hidden}
-use Rattle.pb_protocol_packing.specs.Packing.{Member, Group, Alone, Joined, capacity, variable_of, digit_at, with_members, with_group, with_groups, number_after, number_of, tests_of, all_tests, where_all, joined_term, group_term, with_assignment, assignments_of, option_said, said_by, packed_step, initial_assignments, begins_with, initial_term, initial_terms, with_sorts, with_ranges}
+use Rattle.pb_protocol_packing.specs.Packing.{Member, Group, Alone, Joined, capacity, variable_of, digit_at, with_members, with_group, with_groups, kept, addends_by, addends, number_of, tests_of, all_tests, where_all, joined_term, group_term, with_assignment, assignments_of, option_said, said_by, packed_step, initial_assignments, begins_with, initial_term, initial_terms, with_sorts, with_ranges}
 use Rattle.pb_protocol_packing.specs.Groups.{name_of, kind_by, kind_within, kind_of, lowest, member_for, names_in, unused_name, named_groups, groups_of, packed}
 use Rattle.pb_protocol_packing.specs.Sizes.{group_sizes, cut_into_groups}
 use Rattle.pb_protocol_packing.specs.Groups as groups
@@ -28,7 +28,7 @@ use Rattle.pb_protocol_laws.specs.SpellingLaws.{PackedModelsAreWritable, PackedF
 use Rattle.pb_protocol_laws.proofs.Words.{primed_word, spelled_word}
 use Rattle.pb_protocol_laws.proofs.Spelled.{FoundRange, FoundSort, range-found, sort-found, structs-spelled, bound-low, bound-high}
 use Rattle.pb_protocol_laws.proofs.Unfolded.{FoundTerm, both}
-use Rattle.pb_protocol_laws.proofs.Digits.{IsLow, KindWritable, DigitsWritable, times-writable, divided-writable, rest-writable, either-writable, to-number, test-writable, hidden-writable, said-writable, formula-writable}
+use Rattle.pb_protocol_laws.proofs.Digits.{IsLow, KindWritable, DigitsWritable, times-writable, between-writable, scaled-writable, plus-all-writable, either-writable, to-number, test-writable, hidden-writable, said-writable, formula-writable}
 
 -- ---- sorts
 
@@ -123,28 +123,26 @@ abbrev GroupKnown : Group → Type 0
 GroupKnown (Alone x) = VariableWritable x
 GroupKnown (Joined x ps) = VariableWritable x × Each MemberKnown ps × Few ps
 
-with-members : (t : Term) (ps : List Member) (σ : Scope) → TermWritable t → Each MemberKnown ps → Few ps → DigitsWritable σ → DigitsWritable (with_members t ps σ)
-with-members t [] σ h w few k = k
-with-members t (p ∷ ps) σ h w few k =
-    let parts = few-parts p.size (capacity ps) few.0 few.1 in
-    let most = parts.2 in let fits : capacity ps ≤ largest_number = omega arith in
-    with-members (rest t (capacity ps)) ps ((p.variable.name, Some (digit_at p (divided t (capacity ps)))) ∷ σ)
-    (rest-writable t (capacity ps) h fits) w.1 (parts.1, parts.2)
-    (record { kind = kind-writable p.kind p.size w.0.words w.0.fits parts.0; low = w.0.low; term = divided-writable t (capacity ps) h fits }, k)
+with-members : (limit : ℕ) (t : Term) (ps : List Member) (σ : Scope) → TermWritable t → Each MemberKnown ps → Few ps → DigitsWritable σ → DigitsWritable (with_members limit t ps σ)
+with-members limit t [] σ h w few k = k
+with-members limit t (p ∷ ps) σ h w few k =
+    let n = capacity (p ∷ ps) in
+    let m = capacity ps in
+    let parts = few-parts p.size m few.0 few.1 in
+    let whole = few.1 in let most = parts.2 in
+    let fits : n ≤ largest_number = omega arith in let small : m ≤ largest_number = omega arith in
+    with-members limit t ps ((p.variable.name, Some (digit_at p (between limit n m t))) ∷ σ) h w.1 (parts.1, parts.2)
+    (record { kind = kind-writable p.kind p.size w.0.words w.0.fits parts.0; low = w.0.low; term = between-writable limit n m t h fits small }, k)
 
 with-group : (g : Group) (σ : Scope) → GroupKnown g → DigitsWritable σ → DigitsWritable (with_group g σ)
 with-group (Alone x) σ h k = (tt, k)
-with-group (Joined x ps) σ h k = with-members (Term.Named x.name) ps σ h.0.0 h.1 h.2 k
+with-group (Joined x ps) σ h k = with-members (capacity ps) (Term.Named x.name) ps σ h.0.0 h.1 h.2 k
 
 with-groups : (gs : List Group) (σ : Scope) → Each GroupKnown gs → DigitsWritable σ → DigitsWritable (with_groups gs σ)
 with-groups [] σ h k = k
 with-groups (g ∷ gs) σ h k = with-groups gs (with_group g σ) h.1 (with-group g σ h.0 k)
 
 -- ---- what a group becomes
-
-number-after : (o : Option Term) (p : Member) (old : Term) → FoundTerm o → MemberKnown p → p.size ≤ 2147483648 → TermWritable old → TermWritable (number_after o p old)
-number-after (Some x) p old h w few k = to-number p.kind p.low x (kind-writable p.kind p.size w.words w.fits few) w.low h
-number-after None p old h w few k = k
 
 tests-writable : (o : Option Term) (p : Member) → FoundTerm o → MemberKnown p → p.size ≤ 2147483648 → Each TermWritable (tests_of o p)
 tests-writable (Some x) p h w few = by (is_surely_within p.kind p.low p.size x)
@@ -159,18 +157,38 @@ where-all [] x y h k l = k
 where-all (t ∷ ts) x y h k l = either-writable t (where_all ts x y) y h.0 (where-all ts x y h.1 k l) l
 
 module _ (new : Name → Option Term) (news : (x : Name) → FoundTerm (new x)) where
+  module _ (limit : ℕ) (t : Term) (h : TermWritable t) where
+    kept-writable : (n m : ℕ) → n ≤ largest_number → m ≤ largest_number → TermWritable (kept limit n m t)
+    kept-writable n m k l = by (nat_eq n m)
+      where
+        by : (b : Bool) → TermWritable (if b then Term.Number 0 else times (between limit n m t) m)
+        by true = let none : 0 ≤ largest_number = omega arith in none
+        by false = times-writable (between limit n m t) m (between-writable limit n m t h k l) l
+
+    addends-by : (o : Option Term) (n : ℕ) (p : Member) (ps : List Member) (others : ℕ → List Term) → FoundTerm o → MemberKnown p → Few (p ∷ ps) → n ≤ largest_number →
+        ((m : ℕ) → m ≤ largest_number → Each TermWritable (others m)) → Each TermWritable (addends_by o limit t n p (capacity ps) others)
+    addends-by None n p ps others found w few k more = more n k
+    addends-by (Some x) n p ps others found w few k more =
+        let m = capacity ps in
+        let parts = few-parts p.size m few.0 few.1 in
+        let whole = few.1 in let most = parts.2 in
+        let fits : p.size * m ≤ largest_number = omega arith in let small : m ≤ largest_number = omega arith in
+        let digit = to-number p.kind p.low x (kind-writable p.kind p.size w.words w.fits parts.0) w.low found in
+        (kept-writable n (p.size * m) k fits, (scaled-writable p.size (to_number p.kind p.low x) m digit small fits, more m small))
+
+    addends-writable : (n : ℕ) (ps : List Member) → n ≤ largest_number → Each MemberKnown ps → Few ps → Each TermWritable (addends new limit t n ps)
+    addends-writable n [] k w few = (kept-writable n 1 k (let one : 1 ≤ largest_number = omega arith in one), tt)
+    addends-writable n (p ∷ ps) k w few =
+        let parts = few-parts p.size (capacity ps) few.0 few.1 in
+        addends-by (new p.variable.name) n p ps (λ m. addends new limit t m ps) (news p.variable.name) w.0 few k (λ m l. addends-writable m ps l w.1 (parts.1, parts.2))
+
   number-writable : (t : Term) (ps : List Member) → TermWritable t → Each MemberKnown ps → Few ps → TermWritable (number_of new t ps)
-  number-writable t [] h w few = omega arith
-  number-writable t (p ∷ []) h w few =
-      number-after (new p.variable.name) p t (news p.variable.name) w.0 (few-parts p.size (capacity []) few.0 few.1).0 h
-  number-writable t (p ∷ r ∷ ps) h w few =
-      let n = capacity (r ∷ ps) in
-      let parts = few-parts p.size n few.0 few.1 in
-      let most = parts.2 in let fits : n ≤ largest_number = omega arith in (
-        times-writable (number_after (new p.variable.name) p (divided t n)) n
-            (number-after (new p.variable.name) p (divided t n) (news p.variable.name) w.0 parts.0 (divided-writable t n h fits)) fits,
-        number-writable (rest t n) (r ∷ ps) (rest-writable t n h fits) w.1 (parts.1, parts.2),
-      )
+  number-writable t ps h w few =
+      let c = capacity ps in
+      let most = few.1 in
+      let none : 0 ≤ largest_number = omega arith in
+      plus-all-writable (Term.Number 0) (addends new c t c ps) none
+      (addends-writable c t h c ps (let fits : c ≤ largest_number = omega arith in fits) w few)
 
   all-tests : (ps : List Member) → Each MemberKnown ps → Few ps → Each TermWritable (all_tests new ps)
   all-tests [] w few = tt

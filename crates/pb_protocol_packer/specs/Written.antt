@@ -29,6 +29,11 @@ abbrev pub small_in : Written → Option ℕ
 small_in (Number n) = if nat_lt n (2 ^ 32) then Some n else None
 small_in x = None
 
+-- a written number below a limit
+abbrev pub below_in : ℕ → Written → Option ℕ
+below_in limit (Number n) = if nat_lt n limit then Some n else None
+below_in limit x = None
+
 -- the whole number that is written, and with `-` in front
 abbrev pub number_in : Written → Option ℤ
 number_in (Number n) = Some (pos n)

@@ -35,31 +35,12 @@ pub(crate) fn given_for<'a>(given: &'a [Given<'_>], name: &str) -> Option<&'a Te
 }
 
 /// The number of a value that a variable gets, of which the term stays.
-fn number_by(builder: Builder, member: &Member, term: &Term) -> Result<Term, AllocError>
+pub(crate) fn number_by(builder: Builder, member: &Member, term: &Term) -> Result<Term, AllocError>
     ensures { IfOk result (λ t. term_of t ≡ numbers.to_number
         (kind_said member.now.kind) member.now.low (term_of term.now)) }
 {
     let copy = copy_term(builder.alloc, term)?;
     to_number(builder, member, copy)
-}
-
-/// The number of what a variable gets, else the number that it had.
-pub(crate) fn number_after(
-    builder: Builder,
-    given: &[Given<'_>],
-    member: &Member,
-    old: Term,
-) -> Result<Term, AllocError>
-    ensures { IfOk result (λ t. term_of t ≡ packing.number_after
-        (new_in given.now (member_of member.now)) (member_of member.now) (term_of old)) }
-{
-    match given_for(given, &member.variable.name.text) {
-        Some(term) => {
-            drop(old);
-            number_by(builder, member, term)
-        }
-        None => Ok(old),
-    }
 }
 
 /// Adds the test whether what a variable gets is one of its values, where that isn't seen.

@@ -1,88 +1,118 @@
 //! The number of a group of variables after what is given to them.
 
-ghost use Rattle.std.specs.Prelude.{◌≡◌, true, IfOk};
+ghost use Rattle.std.specs.Prelude.{◌≡◌, ◌*◌, ℕ, List, IfOk};
 ghost use Rattle.pb_model_meaning.specs.Steps.{assigned_term};
 ghost use Rattle.pb_protocol_packing.specs.Numbers as numbers;
 ghost use Rattle.pb_protocol_packing.specs.Packing as packing;
 ghost use Rattle.pb_text_meaning.specs.Syntax as syntax;
 ghost use Rattle.pb_protocol_packer.specs.View.{term_of};
-ghost use Rattle.pb_protocol_packer.specs.Members.{are_weighted, member_of, members_said};
+ghost use Rattle.pb_protocol_packer.specs.Members.{kind_said, member_of, members_said};
 ghost use Rattle.pb_protocol_packer.specs.Given.{given_in, new_in, terms_in};
 
 use crate::builder::Builder;
-use crate::given::{Given, all_tests, number_after};
+use crate::given::{Given, all_tests, given_for, number_by};
 use crate::group::Joined;
 use crate::member::Member;
+use crate::radix::{between, plus, scaled, times};
 use pb_base::both;
-use pb_text_tree::{Arithmetic, Term, copy_term};
+use pb_text_tree::{Term, copy_term};
 use std::alloc::AllocError;
 
-/// A term so many times, where that isn't once.
-fn times(builder: Builder, term: Term, number: u32) -> Result<Term, AllocError>
-    ensures { IfOk result (λ t. term_of t ≡ numbers.times (term_of term) number) }
-{
-    if number == 1 {
-        return Ok(term);
-    }
-    builder.computed(Arithmetic::Times, term, builder.number(u64::from(number)))
-}
-
-/// The quotient by a number that isn't 1.
-pub(crate) fn divided(builder: Builder, term: Term, number: u32) -> Result<Term, AllocError>
-    ensures { IfOk result (λ t. term_of t ≡ numbers.divided (term_of term) number) }
-{
-    if number == 1 {
-        return Ok(term);
-    }
-    builder.computed(Arithmetic::Div, term, builder.number(u64::from(number)))
-}
-
-/// The remainder.
-pub(crate) fn rest(builder: Builder, term: Term, number: u32) -> Result<Term, AllocError>
-    ensures { IfOk result (λ t. term_of t ≡ numbers.rest (term_of term) number) }
-{
-    builder.computed(Arithmetic::Mod, term, builder.number(u64::from(number)))
-}
-
-/// What a variable adds to the number afterwards, where that was the number of a term.
-fn part_after(
+/// What becomes of the number of a group: the number, what it is below, and what variables get.
+#[derive(Clone, Copy)]
+struct Change<'a> {
     builder: Builder,
-    given: &[Given<'_>],
-    member: &Member,
-    number: &Term,
-) -> Result<Term, AllocError>
-    ensures { IfOk result (λ t. term_of t ≡ numbers.times (packing.number_after
-        (new_in given.now (member_of member.now)) (member_of member.now)
-        (numbers.divided (term_of number.now) member.now.weight)) member.now.weight) }
+    given: &'a [Given<'a>],
+    old: &'a Term,
+    limit: u32,
+}
+
+/// A sum, without the digits behind it that count less than `end` and stay.
+#[derive(Drop)]
+struct Sum {
+    term: Term,
+    end: u32,
+}
+
+/// The digits of the number that count less than `end`, and `weight` at least, where they are.
+fn kept(change: &Change<'_>, end: u32, weight: u32) -> Result<Term, AllocError>
+    ensures { IfOk result (λ t. term_of t
+        ≡ packing.kept change.now.limit end weight (term_of change.now.old.now)) }
 {
-    let old = divided(builder, copy_term(builder.alloc, number)?, member.weight)?;
-    let new = number_after(builder, given, member, old)?;
-    times(builder, new, member.weight)
+    let builder = change.builder;
+    if end == weight {
+        return Ok(builder.number(0));
+    }
+    let old = copy_term(builder.alloc, change.old)?;
+    let digits = between(builder, change.limit, end, weight, old)?;
+    times(builder, digits, weight)
+}
+
+/// What a variable adds that gets a term.
+fn digit_of(builder: Builder, member: &Member, term: &Term) -> Result<Term, AllocError>
+    ensures { IfOk result (λ t. term_of t ≡ numbers.scaled member.now.size
+        (numbers.to_number (kind_said member.now.kind) member.now.low (term_of term.now))
+        member.now.weight) }
+{
+    let number = number_by(builder, member, term)?;
+    scaled(builder, member.size, number, member.weight)
+}
+
+/// A sum with the digits that stay in front of a variable, and the variable's own, where it gets a
+/// term.
+fn with_member(change: &Change<'_>, sum: Sum, member: &Member, end: u32) -> Result<Sum, AllocError>
+    requires { end ≡ member.now.size * member.now.weight }
+    ensures { IfOk result (λ s. (others : ℕ → List syntax.Term) →
+        numbers.plus_all (term_of s.term) (others s.end)
+        ≡ numbers.plus_all (term_of sum.term) (packing.addends_by
+        (new_in change.now.given.now (member_of member.now)) change.now.limit
+        (term_of change.now.old.now) sum.end (member_of member.now) member.now.weight others)) }
+{
+    let Some(new) = given_for(change.given, &member.variable.name.text) else {
+        return Ok(sum);
+    };
+    let builder = change.builder;
+    let stays = kept(change, sum.end, end);
+    let (term, stays) = both(sum.term, stays)?;
+    let term = plus(builder, term, stays)?;
+    let (term, digit) = both(term, digit_of(builder, member, new))?;
+    let term = plus(builder, term, digit)?;
+    Ok(Sum {
+        term,
+        end: member.weight,
+    })
 }
 
 /// The number that the variables make afterwards, where it was that of a term.
 fn number_of(
     builder: Builder,
     given: &[Given<'_>],
-    term: Term,
-    members: &[Member],
+    old: &Term,
+    joined: &Joined,
 ) -> Result<Term, AllocError>
-    requires { are_weighted members.now ≡ true }
     ensures { IfOk result (λ t. term_of t ≡ packing.number_of
-        (assigned_term (given_in given.now)) (term_of term) (members_said members.now)) }
+        (assigned_term (given_in given.now)) (term_of old.now)
+        (members_said joined.now.members.items)) }
 {
-    let Some((member, others)) = members.split_first() else {
-        drop(term);
-        return Ok(builder.number(0));
+    let limit = joined.capacity;
+    let change = Change {
+        builder,
+        given,
+        old,
+        limit,
     };
-    if others.is_empty() {
-        return number_after(builder, given, member, term);
+    let mut sum = Sum {
+        term: builder.number(0),
+        end: limit,
+    };
+    let mut end = limit;
+    for member in &joined.members {
+        sum = with_member(&change, sum, member, end)?;
+        end = member.weight;
     }
-    let part = part_after(builder, given, member, &term);
-    let (term, part) = both(term, part)?;
-    let (part, remainder) = both(part, rest(builder, term, member.weight))?;
-    let (part, sum) = both(part, number_of(builder, given, remainder, others))?;
-    builder.computed(Arithmetic::Plus, part, sum)
+    let Sum { term, end } = sum;
+    let (term, stays) = both(term, kept(&change, end, 1))?;
+    plus(builder, term, stays)
 }
 
 /// A term where all tests hold, and a number else.
@@ -112,8 +142,8 @@ pub(crate) fn joined_term(
         (assigned_term (given_in given.now)) (term_of term)
         (members_said joined.now.members.items)) }
 {
-    let (term, tests) = both(term, all_tests(builder, given, &joined.members))?;
-    let number = number_of(builder, given, term, &joined.members);
-    let (tests, number) = both(tests, number)?;
+    let number = number_of(builder, given, &term, joined);
+    drop(term);
+    let (number, tests) = both(number?, all_tests(builder, given, &joined.members))?;
     where_all(builder, tests, number, u64::from(joined.capacity))
 }

@@ -20,6 +20,7 @@ mod model;
 mod node;
 mod place_number;
 mod properties;
+mod radix;
 mod said;
 mod scope;
 mod seen;

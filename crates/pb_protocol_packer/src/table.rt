@@ -1,16 +1,15 @@
 //! The digits that stand for the variables of groups.
 
-ghost use Rattle.std.specs.Prelude.{◌≡◌, true, [], IfOk, OnOk};
+ghost use Rattle.std.specs.Prelude.{◌≡◌, [], IfOk, OnOk};
 ghost use Rattle.pb_protocol_packing.specs.Packing.{with_group, with_groups, with_members};
 ghost use Rattle.pb_protocol_packer.specs.View.{term_of};
-ghost use Rattle.pb_protocol_packer.specs.Members.{are_weighted, members_said};
+ghost use Rattle.pb_protocol_packer.specs.Members.{members_said};
 ghost use Rattle.pb_protocol_packer.specs.Groups.{group_of, groups_in};
 ghost use Rattle.pb_protocol_packer.specs.Scopes.{table_of};
 
 use crate::builder::Builder;
-use crate::group::Group;
-use crate::group_number::{divided, rest};
-use crate::member::Member;
+use crate::group::{Group, Joined};
+use crate::radix::between;
 use crate::scope::{Digit, Known};
 use pb_text_tree::{Term, copy_term};
 use std::alloc::{AllocError, Global};
@@ -19,16 +18,17 @@ use std::alloc::{AllocError, Global};
 fn put_members<'a>(
     table: &mut Vec<Known<'a>>,
     builder: Builder,
-    number: Term,
-    members: &'a [Member],
+    number: &Term,
+    joined: &'a Joined,
 ) -> Result<(), AllocError>
-    requires { are_weighted members.now ≡ true }
     ensures { OnOk result (table_of table.new.items
-        ≡ with_members (term_of number) (members_said members.now) (table_of table.old.items)) }
+        ≡ with_members joined.now.capacity (term_of number.now)
+        (members_said joined.now.members.items) (table_of table.old.items)) }
 {
-    let mut left = number;
-    for member in members {
-        let term = divided(builder, copy_term(builder.alloc, &left)?, member.weight)?;
+    let mut end = joined.capacity;
+    for member in &joined.members {
+        let number = copy_term(builder.alloc, number)?;
+        let term = between(builder, joined.capacity, end, member.weight, number)?;
         table.insert(
             0,
             Known {
@@ -36,7 +36,7 @@ fn put_members<'a>(
                 digit: Some(Digit { member, term }),
             },
         )?;
-        left = rest(builder, left, member.weight)?;
+        end = member.weight;
     }
     Ok(())
 }
@@ -67,7 +67,7 @@ fn put_group<'a>(
                 place: joined.variable.name.place,
             };
             let number = builder.name(&joined.variable.name)?;
-            put_members(table, builder, number, &joined.members)
+            put_members(table, builder, &number, joined)
         }
     }
 }

@@ -2,7 +2,7 @@
 use Rattle.std.proofs.Common.{◌≡◌, ℕ, zero, suc, ◌+◌, ◌*◌, ◌/◌, ◌%◌, ◌<◌, ℤ, pos, negsuc, ◌+ℤ◌, ◌-ℤ◌, ◌≤ℤ◌, ◌<ℤ◌, Bool, true, false, true≢false, ◌&&◌, ◌||◌, List, [], ◌∷◌, map, length, int_eq, inl, inr, refl, sym, ap, ◌∙◌, subst, arith}
 use Rattle.std.specs.Prelude.{int_le, int_lt}
 use Rattle.std.proofs.lemmas.Int.{ints}
-use Rattle.std.proofs.Math.Nat.{div-lt_iff_lt-mul, mod-lt}
+use Rattle.std.proofs.Math.Nat.{div-lt_iff_lt-mul, mod-lt, mod-mod_of_dvd, dvd-mul_left, div-add-mod', mul_assoc, mul-add-div_right, add-mul, div-eq_of_lt, zero-mul}
 use Rattle.std.proofs.lemmas.Bool.{or_cases, or_right, and_from, and_parts}
 use Rattle.std.proofs.lemmas.Bool.Decides.{Decides-int_eq}
 use Rattle.pb_base_values.specs.Carrier.{Carrier, Value, numbers_from, contains, is_within, tuple_count}
@@ -30,6 +30,23 @@ pub made-below : (a c d e : ℕ) → d < a → e < c → d * c + e < a * c
 made-below zero c d e below under = absurd (omega arith)
 made-below (suc a) c zero e below under = omega arith
 made-below (suc a) c (suc d) e below under = omega (arith, made-below a c d e (omega arith) under)
+
+-- the digits behind those of a number that are dropped
+pub rest-rest : (k a c : ℕ) → k % (a * c) % c ≡ k % c
+rest-rest k a c = mod-mod_of_dvd c k (dvd-mul_left c a)
+
+pub none-between : (k c : ℕ) → 0 < c → k % c / c * c ≡ 0
+none-between k c some = ap (λ j. j * c) (div-eq_of_lt (mod-lt k some)) ∙ zero-mul c
+
+-- the digits from c on are those from a * c on and those between
+pub quotient-parts : (k a c : ℕ) → 0 < c → k / c * c ≡ k / (a * c) * (a * c) + k % (a * c) / c * c
+quotient-parts k a c some =
+    let w = a * c in
+    let q = k / w in
+    ap (λ j. j / c * c) (sym (div-add-mod' k w) ∙ ap (λ j. j + k % w) (sym (mul_assoc q a c)))
+    ∙ ap (λ j. j * c) (mul-add-div_right some (q * a) (k % w))
+    ∙ add-mul (q * a) (k % w / c) c
+    ∙ ap (λ j. j + k % w / c * c) (mul_assoc q a c)
 
 -- ---- carriers
 

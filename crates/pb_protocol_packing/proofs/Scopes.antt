@@ -1,8 +1,9 @@
 -- What names stand for at a state of the packed model.
-use Rattle.std.proofs.Common.{◌≡◌, ℕ, suc, ◌<◌, ◌/◌, ◌%◌, pos, ◌+ℤ◌, Bool, true, false, true≢false, not, if◌then◌else◌, ◌&&◌, ◌||◌, List, [], ◌∷◌, map, flat_map, refl, sym, ap, ◌∙◌, subst}
+use Rattle.std.proofs.Common.{◌≡◌, ℕ, suc, ◌<◌, ◌/◌, ◌%◌, pos, ◌+ℤ◌, Bool, true, false, true≢false, not, if◌then◌else◌, ◌&&◌, ◌||◌, List, [], ◌∷◌, map, flat_map, refl, sym, ap, ◌∙◌, subst, arith}
 use Rattle.std.specs.Prelude.{Some, None}
 use Rattle.std.specs.List.{list_all}
 use Rattle.std.specs.Cmp.Lexicographic.{same_text}
+use Rattle.std.proofs.Math.Nat.{mod-lt, mod-eq_of_lt}
 use Rattle.std.proofs.lemmas.Bool.{and_parts, or_right}
 use Rattle.pb_base_values.specs.Carrier.{Carrier, Value, Tuple, at_least_none, contains, is_within}
 use Rattle.pb_text_meaning.specs.Syntax.{Name, same_name, Variable, Term}
@@ -14,15 +15,15 @@ use Rattle.pb_model_meaning.specs.Syntax.{Model}
 use Rattle.pb_model_meaning.specs.Steps.{State, data_of}
 use Rattle.pb_model_translation.specs.Apart.{IsNew}
 use Rattle.pb_model_translation.proofs.Data.{Assigns}
-use Rattle.pb_protocol_packing.specs.Numbers.{Kind, Boolean, Enumeration, Whole, divided, rest}
+use Rattle.pb_protocol_packing.specs.Numbers.{Kind, Boolean, Enumeration, Whole, between}
 use Rattle.pb_protocol_packing.specs.Said.{Scope, hidden}
 use Rattle.pb_protocol_packing.specs.Packing.{Member, Group, Alone, Joined, capacity, variable_of, with_members, with_groups, packed_by, digit_at}
 use Rattle.pb_protocol_packing.specs.Apart.{Each, is_among, all_members, variables_of, group_variables, new_names, new_sorts, enumerators_of, used_enumerators, may_bind, ArePlaced, IsKind, IsMember}
 use Rattle.pb_protocol_packing.proofs.Sorts.{IsPackedSort}
 use Rattle.pb_protocol_packing.proofs.Lists.{each-front, each-rest, not-true}
 use Rattle.pb_protocol_packing.proofs.Values.{Sees, Stays, sees-itself, sees-digit, sees-new, named-same}
-use Rattle.pb_protocol_packing.proofs.Digits.{positive, quotient-below, rest-below}
-use Rattle.pb_protocol_packing.proofs.Terms.{Placed, KindAt, value-divided, value-rest, value-from_number, digit-at}
+use Rattle.pb_protocol_packing.proofs.Digits.{positive, quotient-below, rest-rest}
+use Rattle.pb_protocol_packing.proofs.Terms.{Placed, KindAt, value-between, value-from_number, digit-at}
 use Rattle.pb_protocol_packing.proofs.Unpacked.{number-within, digits-fill, assigned-group}
 use Rattle.pb_protocol_packing.specs.Unpacked.{digits, unpacked}
 
@@ -84,24 +85,39 @@ module _ (m : Model) (all : List Group) (b : Assignment) where
   kinds-at free c fixed [] said = tt
   kinds-at free c fixed (p ∷ ps) said = (kind-at free c fixed p said.0, kinds-at free c fixed ps said.1)
 
-  -- the variables of a group stand for the digits of its number
-  sees-places : NotHidden → (ps : List Member) (t : Term) (k : ℕ) (σ : Scope) (a d : Assignment) → ((c : Assignment) → Fixed all b c → value (data_of (packed_by all m)) c t ≡ pos k) →
-      k < capacity ps → Each (IsSaid m all) ps → Sees m all (Fixed all b) σ a d →
-      Sees m all (Fixed all b) (with_members t ps σ) (assigned (variables_of ps) (digits ps k) a) d
-  sees-places free [] t k σ a d is below said sees = sees
-  sees-places free (p ∷ ps) t k σ a d is below said sees =
+  -- the last variables of a group stand for the last digits of its number
+  sees-last : NotHidden → (limit : ℕ) (ps : List Member) (t : Term) (k : ℕ) (σ : Scope) (a d : Assignment) → ((c : Assignment) → Fixed all b c → value (data_of (packed_by all m)) c t ≡ pos k) →
+      k < limit → 0 < capacity ps → Each (IsSaid m all) ps → Sees m all (Fixed all b) σ a d →
+      Sees m all (Fixed all b) (with_members limit t ps σ) (assigned (variables_of ps) (digits ps (k % capacity ps)) a) d
+  sees-last free limit [] t k σ a d is below some said sees = sees
+  sees-last free limit (p ∷ ps) t k σ a d is below some said sees =
       let n = capacity ps in
-      let some : 0 < n = positive k p.size n below in
-      sees-places free ps (rest t n) (k % n) ((p.variable.name, Some (digit_at p (divided t n))) ∷ σ) ((p.variable.name, p.low +ℤ pos (k / n)) ∷ a) d
-      (λ c fixed. value-rest (data_of (packed_by all m)) c t k n some (is c fixed)) (rest-below k p.size n below) said.1
-      (sees-digit m all (Fixed all b) p.variable.name (p.low +ℤ pos (k / n)) (digit_at p (divided t n)) σ a d
+      let left = k % capacity (p ∷ ps) in
+      let under : left < capacity (p ∷ ps) = mod-lt k some in
+      let more : 0 < n = positive left p.size n under in
+      let x = between limit (capacity (p ∷ ps)) n t in
+      let τ : Scope = (p.variable.name, Some (digit_at p x)) ∷ σ in
+      let f : Assignment = (p.variable.name, p.low +ℤ pos (left / n)) ∷ a in
+      subst (λ j. Sees m all (Fixed all b) (with_members limit t ps τ) (assigned (variables_of ps) (digits ps j) f) d)
+      (sym (rest-rest k p.size n))
+      (sees-last free limit ps t k τ f d is below more said.1
+      (sees-digit m all (Fixed all b) p.variable.name (p.low +ℤ pos (left / n)) (digit_at p x) σ a d
       (λ c fixed.
       let kind = kind-at free c fixed p said.0 in
-      let small = quotient-below k p.size n below in
-      let digit = value-divided (data_of (packed_by all m)) c t k n some (is c fixed) in (
-        value-from_number (data_of (packed_by all m)) c p.kind p.low p.size (divided t n) (k / n) kind small digit,
-        digit-at (data_of (packed_by all m)) c p.kind p.low p.size (divided t n) (k / n) kind small digit,
-      )) sees)
+      let small = quotient-below left p.size n under in
+      let digit = value-between (data_of (packed_by all m)) c t k limit (capacity (p ∷ ps)) n some more below (is c fixed) in (
+        value-from_number (data_of (packed_by all m)) c p.kind p.low p.size x (left / n) kind small digit,
+        digit-at (data_of (packed_by all m)) c p.kind p.low p.size x (left / n) kind small digit,
+      )) sees))
+
+  -- and all of them for all digits
+  sees-places : NotHidden → (ps : List Member) (t : Term) (k : ℕ) (σ : Scope) (a d : Assignment) → ((c : Assignment) → Fixed all b c → value (data_of (packed_by all m)) c t ≡ pos k) →
+      k < capacity ps → Each (IsSaid m all) ps → Sees m all (Fixed all b) σ a d →
+      Sees m all (Fixed all b) (with_members (capacity ps) t ps σ) (assigned (variables_of ps) (digits ps k) a) d
+  sees-places free ps t k σ a d is below said sees =
+      subst (λ j. Sees m all (Fixed all b) (with_members (capacity ps) t ps σ) (assigned (variables_of ps) (digits ps j) a) d)
+      (mod-eq_of_lt below)
+      (sees-last free (capacity ps) ps t k σ a d is below (omega arith) said sees)
 
   -- the variable of a group has its number wherever the fixed names stand for the same
   pub group-number : (x : Name) (v : Value) (k : ℕ) → is_among (new_names all) x ≡ true → looked_up b x ≡ Some v → v ≡ pos k →
@@ -125,9 +141,9 @@ module _ (m : Model) (all : List Group)
       let parts = and_parts (contains (carrier_of (data_of (packed_by all m)) x.sort) v) _ e in
       let number = number-within m all sorts ps v (sym (ap (λ (c : Carrier). contains c v) packed.0) ∙ parts.0) in
       let k = at_least_none v in
-      subst (λ (f : Assignment). Sees m all (Fixed all b) (with_groups gs (with_members (Term.Named x.name) ps σ)) f (assigned (map variable_of gs) t ((x.name, v) ∷ d)))
+      subst (λ (f : Assignment). Sees m all (Fixed all b) (with_groups gs (with_members (capacity ps) (Term.Named x.name) ps σ)) f (assigned (map variable_of gs) t ((x.name, v) ∷ d)))
       (sym (assigned-group ps (digits ps k) (flat_map group_variables gs) (unpacked gs t) a (digits-fill ps k)))
-      (sees-groups gs t (with_members (Term.Named x.name) ps σ) (assigned (variables_of ps) (digits ps k) a)
+      (sees-groups gs t (with_members (capacity ps) (Term.Named x.name) ps σ) (assigned (variables_of ps) (digits ps k) a)
       ((x.name, v) ∷ d) packed.1 (each-rest (IsSaid m all) ps (all_members gs) said) among.1 at.1 parts.1
       (sees-places m all b free ps (Term.Named x.name) k σ a ((x.name, v) ∷ d) (group-number m all b x.name v k among.0 at.0 number.0) number.1 (each-front (IsSaid m all) ps (all_members gs) said)
       (sees-new m all (Fixed all b) x.name v σ a d among.0 sees)))

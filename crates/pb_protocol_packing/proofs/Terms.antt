@@ -3,14 +3,14 @@ use Rattle.std.proofs.Common.{◌≡◌, ℕ, zero, suc, ◌+◌, ◌*◌, ◌/�
 use Rattle.std.specs.Prelude.{nat_eq, Option, Some, None, codes}
 use Rattle.std.specs.Cmp.Lexicographic.{same_text}
 use Rattle.std.proofs.lemmas.Int.{ints}
-use Rattle.std.proofs.Math.Nat.{div-one}
+use Rattle.std.proofs.Math.Nat.{div-one, mod-eq_of_lt}
 use Rattle.std.proofs.lemmas.Bool.Decides.{Decides-int_eq, Decides-eqb}
 use Rattle.pb_base_values.specs.Carrier.{Value, of_bool}
 use Rattle.pb_base_values.specs.Division.{quotient, remainder}
 use Rattle.pb_text_meaning.specs.Syntax.{Name, same_name, Operator, Term, Terms, Spec}
 use Rattle.pb_text_meaning.specs.Functions.{named_function}
 use Rattle.pb_text_meaning.specs.Value.{Assignment, is_true, binary, value}
-use Rattle.pb_protocol_packing.specs.Numbers.{Kind, Boolean, Enumeration, Whole, number, times, divided, rest, raised, lowered, either, enumerator_at, place_of, from_number, computed_number, place_among, place_or, place_number, constant_number, number_or, to_number, gives_truth, is_truth, is_enumerator, is_surely_within, is_one_of, test_of}
+use Rattle.pb_protocol_packing.specs.Numbers.{Kind, Boolean, Enumeration, Whole, number, times, divided, rest, raised, lowered, either, enumerator_at, place_of, from_number, computed_number, place_among, place_or, place_number, constant_number, number_or, to_number, between, scaled, is_zero, plus, plus_all, gives_truth, is_truth, is_enumerator, is_surely_within, is_one_of, test_of}
 use Rattle.pb_protocol_packing.specs.Said.{Digit, compared_place, by_place, compared}
 use Rattle.std.specs.Prelude.{int_le, int_lt, is_some, nat_lt, ◌^◌}
 use Rattle.std.proofs.lemmas.Bool.{and_parts}
@@ -75,12 +75,52 @@ module _ (N : Spec) (c : Assignment) where
       remainder-is zero p = absurd (omega arith)
       remainder-is (suc n) p = refl
 
+  pub value-between : (x : Term) (k limit n m : ℕ) → 0 < n → 0 < m → k < limit → value N c x ≡ pos k → value N c (between limit n m x) ≡ pos (k % n / m)
+  value-between x k limit n m some positive below h = value-divided (if nat_eq n limit then x else rest x n) (k % n) m positive (by (nat_eq n limit) refl)
+    where
+      by : (b : Bool) → nat_eq n limit ≡ b → value N c (if b then x else rest x n) ≡ pos (k % n)
+      by true e = let same : n ≡ limit = (Decides-eqb n limit).0 e in h ∙ ap pos (sym (mod-eq_of_lt (omega (arith, same, below))))
+      by false e = value-rest x k n some h
+
   pub value-times : (x : Term) (k n : ℕ) → value N c x ≡ pos k → value N c (times x n) ≡ pos (k * n)
   value-times x k n h = by (nat_eq n 1) refl
     where
       by : (b : Bool) → nat_eq n 1 ≡ b → value N c (if b then x else Term.Binary Operator.Times x (Term.Number n)) ≡ pos (k * n)
       by true e = h ∙ ap pos (let one : n ≡ 1 = (Decides-eqb n 1).0 e in sym (ap (λ j. k * j) one ∙ omega arith))
       by false e = ap (λ v. v *ℤ pos n) h
+
+  pub value-scaled : (limit : ℕ) (x : Term) (k n : ℕ) → value N c x ≡ pos k → value N c (scaled limit x n) ≡ pos (k * n)
+  value-scaled limit (Term.Number d) k n h = by (nat_lt d limit)
+    where
+      by : (b : Bool) → value N c (if b then Term.Number (d * n) else times (Term.Number d) n) ≡ pos (k * n)
+      by true = let same : d ≡ k = omega (arith, ints, h) in ap (λ j. pos (j * n)) same
+      by false = value-times (Term.Number d) k n h
+  value-scaled limit x k n h = value-times x k n h
+
+  -- ---- sums
+
+  zero-is : (x : Term) → is_zero x ≡ true → value N c x ≡ pos 0
+  zero-is (Term.Number zero) e = refl
+  zero-is x e = absurd (true≢false (sym e))
+
+  value-plus : (x y : Term) → value N c (plus x y) ≡ value N c x +ℤ value N c y
+  value-plus x y = by (is_zero x) (is_zero y) refl refl
+    where
+      by : (a b : Bool) → is_zero x ≡ a → is_zero y ≡ b → value N c (if a then y else (if b then x else Term.Binary Operator.Plus x y)) ≡ value N c x +ℤ value N c y
+      by true b e h = sym (ap (λ v. v +ℤ value N c y) (zero-is x e) ∙ omega (arith, ints))
+      by false true e h = sym (ap (λ v. value N c x +ℤ v) (zero-is y h) ∙ omega (arith, ints))
+      by false false e h = refl
+
+  -- the sum of the values of terms
+  abbrev pub total : List Term → Value
+  total [] = pos 0
+  total (x ∷ xs) = value N c x +ℤ total xs
+
+  pub value-plus_all : (x : Term) (xs : List Term) → value N c (plus_all x xs) ≡ value N c x +ℤ total xs
+  value-plus_all x [] = omega (arith, ints)
+  value-plus_all x (y ∷ ys) =
+      value-plus_all (plus x y) ys ∙ ap (λ v. v +ℤ total ys) (value-plus x y)
+      ∙ omega (arith, ints)
 
   -- ---- a variable's value from its number
 

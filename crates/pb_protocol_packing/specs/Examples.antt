@@ -69,7 +69,7 @@ groups =
 abbrev pub packed_machine : Model
 packed_machine = packed_by groups machine
 
--- p == trying and n, as the packed machine says them: s div 8 == 1 and s mod 8 mod 4 + 1
+-- p == trying and n, as the packed machine says them: s div 8 == 1 and s mod 4 + 1
 abbrev pub is_trying : Term
 is_trying = same p trying
 
@@ -80,8 +80,8 @@ packed_is_trying =
 
 abbrev pub packed_n : Term
 packed_n =
-    let t : Term = Term.Binary Operator.Mod (Term.Named (codes "s")) (Term.Number 8) in
-    Term.Binary Operator.Plus (Term.Binary Operator.Mod t (Term.Number 4)) (Term.Number 1)
+    Term.Binary Operator.Plus
+    (Term.Binary Operator.Mod (Term.Named (codes "s")) (Term.Number 4)) (Term.Number 1)
 
 -- p := k is tested, where k is a variable of a step
 abbrev pub tested_p : Term

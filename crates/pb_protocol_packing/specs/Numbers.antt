@@ -1,5 +1,5 @@
 -- The values of variables as numbers from 0 on, and back, in terms.
-use Rattle.std.specs.Prelude.{ℕ, zero, suc, ℤ, pos, negsuc, ◌-ℤ◌, nat_eq}
+use Rattle.std.specs.Prelude.{ℕ, zero, suc, ◌*◌, ℤ, pos, negsuc, ◌-ℤ◌, nat_eq}
 use Rattle.std.specs.Prelude.{if◌then◌else◌, List, [], ◌∷◌, Option}
 use Rattle.std.specs.Prelude.{Some, None, codes, is_some, Bool, true, false, ◌&&◌, int_le, int_lt}
 use Rattle.std.specs.Prelude.{◌+ℤ◌, ◌^◌, nat_lt}
@@ -29,6 +29,32 @@ divided x n = if nat_eq n 1 then x else Term.Binary Operator.Div x (Term.Number 
 
 abbrev pub rest : Term → ℕ → Term
 rest x n = Term.Binary Operator.Mod x (Term.Number n)
+
+-- The digits of x that count less than n, and m at least. In a mixed radix what a digit counts
+-- divides what those in front of it count: so the remainder by n drops all of these at once, and
+-- the quotient by m those behind. Where n is the limit of x, there are none in front.
+abbrev pub between : ℕ → ℕ → ℕ → Term → Term
+between limit n m x = divided (if nat_eq n limit then x else rest x n) m
+
+-- x * n, written where x is a written number below a limit
+abbrev pub scaled : ℕ → Term → ℕ → Term
+scaled limit (Term.Number d) n =
+    if nat_lt d limit then Term.Number (d * n) else times (Term.Number d) n
+scaled limit x n = times x n
+
+-- x + y, where neither is a written 0
+abbrev pub is_zero : Term → Bool
+is_zero (Term.Number zero) = true
+is_zero x = false
+
+abbrev pub plus : Term → Term → Term
+plus x y =
+    if is_zero x then y else (if is_zero y then x else Term.Binary Operator.Plus x y)
+
+-- x and the sum of terms
+abbrev pub plus_all : Term → List Term → Term
+plus_all x [] = x
+plus_all x (y ∷ ys) = plus_all (plus x y) ys
 
 -- x + low and x - low, where low isn't 0
 abbrev pub raised : Term → ℤ → Term

@@ -1,15 +1,15 @@
 -- From a model to one with fewer state variables: a group of them becomes one variable, whose value
 -- is the number that their values make, the last variable fastest (a mixed radix).
-use Rattle.std.specs.Prelude.{ℕ, ◌*◌, ℤ, pos, ◌-ℤ◌}
+use Rattle.std.specs.Prelude.{ℕ, ◌*◌, nat_eq, ℤ, pos, ◌-ℤ◌}
 use Rattle.std.specs.Prelude.{if◌then◌else◌, List, [], ◌∷◌, ◌++◌, map, Option}
 use Rattle.std.specs.Prelude.{Some, None, is_some, codes}
 use Rattle.std.specs.List.{list_any}
-use Rattle.pb_text_meaning.specs.Syntax.{Name, Variable, Operator, Term, Terms, Alias}
+use Rattle.pb_text_meaning.specs.Syntax.{Name, Variable, Term, Terms, Alias}
 use Rattle.pb_text_meaning.specs.Syntax.{SortDeclaration, Range}
 use Rattle.pb_model_meaning.specs.Syntax.{Assignment, Step, Formula, Property, Model}
 use Rattle.pb_model_meaning.specs.Steps.{assigned_term}
 use Rattle.pb_model_translation.specs.Translation.{term_or_name}
-use Rattle.pb_protocol_packing.specs.Numbers.{Kind, times, divided, rest}
+use Rattle.pb_protocol_packing.specs.Numbers.{Kind, times, between, scaled, plus_all}
 use Rattle.pb_protocol_packing.specs.Numbers.{either, to_number, is_surely_within, test_of}
 use Rattle.pb_protocol_packing.specs.Said.{Digit, Scope, hidden, said}
 
@@ -42,17 +42,17 @@ variable_of (Joined x ps) = x
 abbrev pub digit_at : Member → Term → Digit
 digit_at p t = record { kind = p.kind; low = p.low; term = t }
 
--- the variables of a group whose number is t: the first is the quotient by how many values the
--- others have, those are the remainder
-abbrev pub with_members : Term → List Member → Scope → Scope
-with_members t [] σ = σ
-with_members t (p ∷ ps) σ =
-    with_members (rest t (capacity ps)) ps
-    ((p.variable.name, Some (digit_at p (divided t (capacity ps)))) ∷ σ)
+-- the variables of a group whose number t is below a limit: each counts as much as those behind it
+-- have values together
+abbrev pub with_members : ℕ → Term → List Member → Scope → Scope
+with_members limit t [] σ = σ
+with_members limit t (p ∷ ps) σ =
+    with_members limit t ps
+    ((p.variable.name, Some (digit_at p (between limit (capacity (p ∷ ps)) (capacity ps) t))) ∷ σ)
 
 abbrev pub with_group : Group → Scope → Scope
 with_group (Alone x) σ = hidden (x ∷ []) σ
-with_group (Joined x ps) σ = with_members (Term.Named x.name) ps σ
+with_group (Joined x ps) σ = with_members (capacity ps) (Term.Named x.name) ps σ
 
 abbrev pub with_groups : List Group → Scope → Scope
 with_groups [] σ = σ
@@ -60,19 +60,30 @@ with_groups (g ∷ gs) σ = with_groups gs (with_group g σ)
 
 -- ---- what a group becomes
 
--- the number of what a variable is to be, else the number that it was
-abbrev pub number_after : Option Term → Member → Term → Term
-number_after (Some x) p old = to_number p.kind p.low x
-number_after None p old = old
+-- Digits in a row that stay are one addend, without being told apart: those of t that count less
+-- than n, and m at least.
+abbrev pub kept : ℕ → ℕ → ℕ → Term → Term
+kept limit n m t = if nat_eq n m then Term.Number 0 else times (between limit n m t) m
+
+-- What adds up to the number afterwards, from a variable on that counts m. The digits before it
+-- that count less than n stay, and aren't added yet: they go on with it where it stays, and end
+-- before it where it gets a new digit, which follows them.
+abbrev pub addends_by :
+    Option Term → ℕ → Term → ℕ → Member → ℕ → (ℕ → List Term) → List Term
+addends_by None limit t n p m others = others n
+addends_by (Some x) limit t n p m others =
+    kept limit n (p.size * m) t ∷ scaled p.size (to_number p.kind p.low x) m ∷ others m
+
+abbrev pub addends : (Name → Option Term) → ℕ → Term → ℕ → List Member → List Term
+addends new limit t n [] = kept limit n 1 t ∷ []
+addends new limit t n (p ∷ ps) =
+    addends_by (new p.variable.name) limit t n p (capacity ps)
+    (λ m. addends new limit t m ps)
 
 -- the number that the variables make afterwards, where it was t
 abbrev pub number_of : (Name → Option Term) → Term → List Member → Term
-number_of new t [] = Term.Number 0
-number_of new t (p ∷ []) = number_after (new p.variable.name) p t
-number_of new t (p ∷ r ∷ ps) =
-    let n = capacity (r ∷ ps) in
-    Term.Binary Operator.Plus (times (number_after (new p.variable.name) p (divided t n)) n)
-    (number_of new (rest t n) (r ∷ ps))
+number_of new t ps =
+    plus_all (Term.Number 0) (addends new (capacity ps) t (capacity ps) ps)
 
 -- whether the values are in their carriers, where that isn't seen
 abbrev pub tests_of : Option Term → Member → List Term

@@ -31,8 +31,8 @@ pub use limits::MAX_GROUP_VALUES;
 pub fn worked_examples()
     ensures initial { initial_state example.packed_machine ≡ pos 4 ∷ [] }
     ensures states { state_count example.packed_machine ≡ state_count example.machine }
-    ensures go { successors example.packed_machine (StepSet.Only (codes "go")) (pos 4 ∷ [])
-        ≡ (pos 8 ∷ []) ∷ [] }
+    ensures go { successors example.packed_machine (StepSet.Only (codes "go")) (pos 6 ∷ [])
+        ≡ (pos 10 ∷ []) ∷ [] }
     ensures leaves { successors example.packed_machine (StepSet.Only (codes "up")) (pos 11 ∷ [])
         ≡ (pos 24 ∷ []) ∷ [] }
     ensures back { successors example.packed_machine (StepSet.Only (codes "back")) (pos 11 ∷ [])
