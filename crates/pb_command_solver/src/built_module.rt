@@ -13,11 +13,11 @@ use crate::workers::Workers;
 use pb_base::MAX_INSTANCES;
 use pb_evidence_nearby::Nearby;
 use pb_exploration::{Explored, Limits, explore};
-use pb_game_of_trees::{BuildError, Solved, TooManyVertices, TreeGame, build, vertex_limit};
+use pb_game_of_trees::{BuildError, Crew, Solved, TooManyVertices, TreeGame, build, vertex_limit};
 use pb_machine::instances_have_trees;
 use pb_sorts::Counting;
 use pb_verifier::Verified;
-use std::alloc::{AllocError, Global};
+use std::alloc::AllocError;
 use std::thread::Threads;
 
 /// The reached instances of a module, with their game.
@@ -53,7 +53,7 @@ pub fn build_module<R: Threads + Sync, G: Progress + Sync>(
         return Err(BuildError::Refused(TooManyVertices));
     };
     context.gate.begins(Phase::Building);
-    build_explored(context.alloc, verified, counting, explored)
+    build_explored(&crew_of(context, workers), verified, counting, explored)
 }
 
 /// The same, going on from the instances nearby where one worker explores and keeps only what it
@@ -80,7 +80,17 @@ pub(crate) fn build_from<R: Threads + Sync, G: Progress + Sync>(
         return Err(BuildError::Refused(TooManyVertices));
     };
     context.gate.begins(Phase::Building);
-    build_explored(alloc, verified, counting, Explored::of_rows(rows))
+    let crew = crew_of(context, workers);
+    build_explored(&crew, verified, counting, Explored::of_rows(rows))
+}
+
+/// So many workers, with the context's threads and memory.
+pub(crate) fn crew_of<'a, R, G>(context: &Context<'a, R, G>, workers: Workers) -> Crew<'a, R> {
+    Crew {
+        rt: context.rt,
+        alloc: context.alloc,
+        workers: workers.count,
+    }
 }
 
 /// Builds the game of a module's reached instances, however they were explored: by `explore`, or by
@@ -88,8 +98,8 @@ pub(crate) fn build_from<R: Threads + Sync, G: Progress + Sync>(
 ///
 /// # Errors
 /// As with `build_module`.
-pub fn build_explored(
-    alloc: Global,
+pub fn build_explored<R: Threads + Sync>(
+    crew: &Crew<'_, R>,
     verified: &Verified,
     counting: Counting,
     explored: Explored,
@@ -99,7 +109,7 @@ pub fn build_explored(
         (SaysTooLarge counting verified.now) }
 {
     instances_have_trees(verified);
-    match build(alloc, verified, explored.rows(), counting) {
+    match build(crew, verified, explored.rows(), counting) {
         Ok(built) => Ok(BuiltModule { explored, built }),
         Err(error) => Err(error),
     }

@@ -21,6 +21,7 @@ pub use context::Context;
 pub use early::{Early, answer_early};
 pub use explanation::explain_module;
 pub use options::SolveOptions;
+pub use pb_game_of_trees::Crew;
 pub use progress::{Phase, Progress};
 pub use solved_module::{SolvedModule, solve_module};
 pub use solver::solve;

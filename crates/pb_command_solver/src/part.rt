@@ -9,7 +9,7 @@ ghost use Rattle.pb_exploration_reached.specs.Nearby.{IsNearby};
 ghost use Rattle.pb_game_of_trees.specs.TreeGame.{KeepsVertexLimit};
 ghost use Rattle.pb_command_solver.specs.Parts.{IsOfRounds, IsPart, IsSolvedPart};
 
-use crate::built_module::solve_game;
+use crate::built_module::{crew_of, solve_game};
 use crate::context::Context;
 use crate::options::SolveOptions;
 use crate::progress::Progress;
@@ -88,7 +88,8 @@ fn solve_part<R: Threads + Sync, G: Progress + Sync>(
         (λ found. IfSome found (λ s. KeepsVertexLimit counting s.solved.built)) }
 {
     instances_have_trees(verified);
-    let built = match build_rows(context.alloc, verified, &part.rows, counting) {
+    let crew = crew_of(context, options.workers);
+    let built = match build_rows(&crew, verified, &part.rows, counting) {
         Ok(built) => built,
         Err(BuildError::Refused(_)) => return Ok(None),
         Err(BuildError::Memory) => return Err(AllocError),

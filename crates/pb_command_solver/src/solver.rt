@@ -23,8 +23,8 @@ use pb_strategy::{Certified, certify};
 use std::alloc::AllocError;
 use std::thread::Threads;
 
-/// The winners of all vertices, which the checker has certified. The workers are those of lifting,
-/// and the gate sees each of their lifts, and when a solution is checked.
+/// The winners of all vertices, which the checker has certified. So many workers lift, and check
+/// solutions; the gate sees each of their lifts, and when a solution is checked.
 ///
 /// # Errors
 ///
@@ -41,16 +41,16 @@ pub fn solve<G: Progress + Sync, R: Threads + Sync>(
     ensures { IfOk result (IsSolutionBy solver game.now) }
 {
     match solver {
-        Solver::Zielonka => solve_by_regions(context, game),
+        Solver::Zielonka => solve_by_regions(context, game, workers),
         Solver::Lift => match lift(context.rt, context.alloc, game, workers, context.gate) {
             Ok(solution) => {
                 context.gate.begins(Phase::Checking);
-                match certify(game, solution) {
+                match certify(context.rt, workers, game, solution) {
                     Ok(certified) => Ok(certified),
-                    Err(_) => solve_by_regions(context, game),
+                    Err(_) => solve_by_regions(context, game, workers),
                 }
             }
-            Err(LiftError::Refused(_)) => solve_by_regions(context, game),
+            Err(LiftError::Refused(_)) => solve_by_regions(context, game, workers),
             Err(LiftError::Memory) => Err(AllocError),
         },
     }
@@ -63,13 +63,14 @@ const SEARCHES: [Search; 3] = [Search::Recursion, Search::Components, Search::Pr
 fn solve_by_search<R: Threads + Sync, G: Progress + Sync>(
     context: &Context<'_, R, G>,
     game: &Game,
+    workers: u32,
 ) -> Result<Option<Certified>, AllocError>
     ensures { IfOk result (λ found. IfSome found (λ s. IsCertificate game.now s)) }
 {
     for &method in &SEARCHES {
         if let Some(solution) = search(context.rt, context.alloc, game, method)? {
             context.gate.begins(Phase::Checking);
-            if let Ok(certified) = certify(game, solution) {
+            if let Ok(certified) = certify(context.rt, workers, game, solution) {
                 return Ok(Some(certified));
             }
         }
@@ -82,15 +83,16 @@ fn solve_by_search<R: Threads + Sync, G: Progress + Sync>(
 fn solve_by_regions<R: Threads + Sync, G: Progress + Sync>(
     context: &Context<'_, R, G>,
     game: &Game,
+    workers: u32,
 ) -> Result<Certified, AllocError>
     ensures { IfOk result (λ s. IsCertificate game.now s) }
 {
-    if let Some(certified) = solve_by_search(context, game)? {
+    if let Some(certified) = solve_by_search(context, game, workers)? {
         return Ok(certified);
     }
     let solution = pb_zielonka::solve(context.rt, context.alloc, game)?;
     context.gate.begins(Phase::Checking);
-    match certify(game, solution) {
+    match certify(context.rt, workers, game, solution) {
         Ok(certified) => Ok(certified),
         Err(_) => unreachable!(),
     }

@@ -5,7 +5,8 @@ ghost use Rattle.pb_command_solver.specs.declared.workers.TheConstants.{MAX_WORK
 /// How many workers there may be.
 pub const MAX_WORKERS: u32 = 16;
 
-/// So many workers explore a module and, where the solver is lifting, lift its game.
+/// So many workers explore a module, build its game, check its solution and, where the solver is
+/// lifting, lift it.
 #[derive(Clone, Copy, PartialEq, Eq)]
 pub struct Workers {
     pub count: u32,

@@ -5,11 +5,13 @@ pub mod Reading
 pub mod LaidOut
 pub mod AroundLeaf
 pub mod Rows
+mod RowRanges
 pub mod Reached
 pub mod Closing
 pub mod EquationLevels
 pub mod LowPriorities
 pub mod Sums
+mod Appending
 pub mod PartsOf
 pub mod Vertices
 pub mod Built

@@ -5,6 +5,7 @@ pub mod Equations
 pub mod Levels
 pub mod Held
 pub mod Places
+pub mod RowRanges
 pub mod Numbering
 pub mod VertexLimit
 pub mod TreeGame

@@ -1,7 +1,8 @@
 //! The vertices of a game from some vertex to the last one, as flat lists that begin with the last
 //! one. A vertex that is put before them goes to the end of each list, so nothing moves until all
 //! lists are turned round at the end.
-ghost use Rattle.std.specs.Prelude.{◌≡◌, ◌∷◌, ◌-◌, ◌≤◌, All, IfOk, OnOk, List, [], map, reverse};
+ghost use Rattle.std.specs.Prelude.{◌≡◌, ◌∷◌, ◌++◌, ◌+◌, ◌-◌, ◌^◌, ◌<◌, ◌≤◌, All, IfOk, OnOk};
+ghost use Rattle.std.specs.Prelude.{List, [], drop, map, reverse};
 ghost use Rattle.pb_fixpoint_trees.specs.Game.{Vertex, rising};
 ghost use Rattle.pb_game_of_trees.specs.Draft.{IsDraft, ArePartsOf};
 ghost use Rattle.pb_game.specs.declared.limits.TheConstants.{MAX_GAME_VERTICES};
@@ -73,6 +74,26 @@ impl Draft {
         Ok(())
     }
 
+    /// Puts vertices before the others.
+    pub fn append(&mut self, before: Draft) -> Result<(), AllocError>
+        requires { (vertices : List Vertex) × IsDraft before vertices }
+        ensures { OnOk result ((vertices others : List Vertex) → IsDraft self.old others
+            → IsDraft before vertices → IsDraft self.new (vertices ++ others)) }
+    {
+        let Draft {
+            mut owners,
+            mut priorities,
+            edges,
+            mut successors,
+        } = before;
+        let behind = self.successors.len();
+        self.successors.append(&mut successors)?;
+        append_sums(&mut self.edges, &edges, behind)?;
+        self.priorities.append(&mut priorities)?;
+        self.owners.append(&mut owners)?;
+        Ok(())
+    }
+
     /// The lists from the first vertex on.
     pub fn into_parts(self) -> Parts
         requires { (vertices : List Vertex) × IsDraft self vertices }
@@ -96,6 +117,19 @@ impl Draft {
             successors,
         }
     }
+}
+
+/// Adds the numbers of edges that leave vertices and those behind these, of which `behind` leave
+/// those that were there before.
+fn append_sums(sums: &mut Vec<usize>, others: &[usize], behind: usize) -> Result<(), AllocError>
+    requires { All (λ n. behind + n < 2 ^ 64) others.now }
+    ensures { OnOk result
+        (sums.new.items ≡ sums.old.items ++ map (λ n. behind + n) (drop 1 others.now)) }
+{
+    for k in 1..others.len() {
+        push(sums, behind + others[k])?;
+    }
+    Ok(())
 }
 
 /// Replaces each number by how far it is below the total.

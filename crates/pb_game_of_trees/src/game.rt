@@ -9,12 +9,13 @@ ghost use Rattle.pb_game_of_trees.specs.TreeGame.{KeepsVertexLimit, HasTooManyVe
 ghost use Rattle.pb_game_of_trees.specs.Explored.{ModuleHasTrees, AreModuleRows, IsModuleGame};
 ghost use Rattle.pb_game_of_trees.specs.Explored.{IsModuleTooLarge};
 
+use crate::crew::Crew;
 use crate::signatures::Signatures;
 use crate::{BuildError, TreeGame};
 use pb_fixpoint_trees::IndexedRows;
 use pb_sorts::Counting;
 use pb_verifier::Verified;
-use std::alloc::Global;
+use std::thread::Threads;
 
 /// The game of rows of a module's equations, with whichever trees the rows have: the instances'
 /// own, or others that are assumed.
@@ -22,8 +23,8 @@ use std::alloc::Global;
 /// # Errors
 /// `TooManyVertices` where the game would have more vertices than `vertex_limit` has, by which
 /// instances count; else `Memory`.
-pub fn build_rows(
-    alloc: Global,
+pub fn build_rows<R: Threads + Sync>(
+    crew: &Crew<'_, R>,
     verified: &Verified,
     rows: &IndexedRows,
     counting: Counting,
@@ -37,8 +38,8 @@ pub fn build_rows(
         → AreRowsOf (map signature_of verified.now.equations) trees rows.now
         → HasTooManyVertices counting (map signature_of verified.now.equations) trees rows.now) }
 {
-    let signatures = Signatures::of_module(alloc, verified)?;
-    TreeGame::build(alloc, &signatures, rows, verified.initial(), counting)
+    let signatures = Signatures::of_module(crew.alloc, verified)?;
+    TreeGame::build(crew, &signatures, rows, verified.initial(), counting)
 }
 
 /// The game of the reached instances of a module.
@@ -46,8 +47,8 @@ pub fn build_rows(
 /// # Errors
 /// `TooManyVertices` where the game would have more vertices than `vertex_limit` has, by which
 /// instances count; else `Memory`.
-pub fn build(
-    alloc: Global,
+pub fn build<R: Threads + Sync>(
+    crew: &Crew<'_, R>,
     verified: &Verified,
     rows: &IndexedRows,
     counting: Counting,
@@ -58,5 +59,5 @@ pub fn build(
     ensures few { IfOk result (KeepsVertexLimit counting) }
     ensures too_many { OnRefused result (IsModuleTooLarge counting verified.now rows.now) }
 {
-    build_rows(alloc, verified, rows, counting)
+    build_rows(crew, verified, rows, counting)
 }

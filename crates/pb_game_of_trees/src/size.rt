@@ -13,11 +13,35 @@ ghost use Rattle.pb_game.specs.declared.limits.TheConstants.{MAX_GAME_VERTICES};
 use pb_fixpoint_trees::{IndexedRows, Kind, ReadRows};
 use pb_game::Game;
 
+/// A part of a game gets room for one more vertex and edge in so many.
+const SPARE: usize = 8;
+
 /// How many vertices a game has, and about how many edges.
 #[derive(Clone, Copy)]
 pub(crate) struct Size {
     pub vertices: usize,
     pub edges: usize,
+}
+
+impl Size {
+    /// About the part that so many of the workers build, and some more, since parts differ.
+    pub(crate) fn share(self, others: u32, workers: u32) -> Size
+        requires { 0 < workers }
+        ensures { result.vertices ≤ self.vertices }
+    {
+        Size {
+            vertices: share_of(self.vertices, others, workers).min(self.vertices),
+            edges: share_of(self.edges, others, workers),
+        }
+    }
+}
+
+fn share_of(count: usize, others: u32, workers: u32) -> usize
+    requires { 0 < workers }
+{
+    let each = count / workers as usize;
+    each.saturating_mul(others as usize)
+        .saturating_add(count / SPARE)
 }
 
 fn is_closing(kind: Kind) -> bool

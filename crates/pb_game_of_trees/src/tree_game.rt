@@ -3,19 +3,21 @@ ghost use Rattle.std.specs.Prelude.{◌≡◌, ◌≤◌, ◌<◌, All, vec_len}
 ghost use Rattle.pb_game.specs.declared.limits.TheConstants.{MAX_GAME_VERTICES};
 ghost use Rattle.pb_game.specs.Games.{vertex_count};
 
+use crate::crew::Crew;
 use crate::finished::game_of;
 use crate::levels::{Levels, count_instances};
 use crate::limit::vertex_limit;
 use crate::numbering::number_vertices;
 use crate::places::{Laid, laid_rows};
-use crate::row_loop::draft_of;
+use crate::row_parts::draft_of;
+use crate::row_range::RowRange;
 use crate::signatures::Signatures;
 use pb_base::{Fault, OrMemory};
-use pb_fixpoint_trees::IndexedRows;
+use pb_fixpoint_trees::{IndexedRows, ReadRows};
 use pb_game::Game;
 use pb_sorts::Counting;
-use std::alloc::Global;
 use std::fmt;
+use std::thread::Threads;
 
 /// The game would have more vertices than it may have: than 2^24 where declared instances count,
 /// and than 2^30 where those that are reached count. It shows as `G01`.
@@ -58,13 +60,13 @@ impl TreeGame {
 
     /// The game of the reached instances of these equations, where `initial` is one of them. How
     /// many vertices it has is found before the game is made: with the vertex of each row, or
-    /// without, where there is no memory for these.
+    /// without, where there is no memory for these. What the workers do changes nothing of it.
     ///
     /// # Errors
     /// `TooManyVertices` exactly where there would be more than `vertex_limit` has, by which
     /// instances count; else `Memory`.
-    pub fn build(
-        alloc: Global,
+    pub fn build<R: Threads + Sync>(
+        crew: &Crew<'_, R>,
         signatures: &Signatures,
         rows: &IndexedRows,
         initial: u64,
@@ -77,11 +79,21 @@ impl TreeGame {
         ensures too_many { IsRefusedExactly counting result
             (equations_of signatures.now.items.items) rows.now }
     {
+        let alloc = crew.alloc;
         let Laid { size, vertices } = laid_rows(alloc, rows, vertex_limit(counting))?;
         let numbers = count_instances(signatures) as usize;
         let numbering = number_vertices(alloc, rows, &vertices, numbers)?;
         let levels = Levels::new(alloc, signatures)?;
-        let draft = draft_of(alloc, &levels, rows, &numbering, size)?;
+        let all = RowRange {
+            levels: &levels,
+            numbering: &numbering,
+            rows,
+            vertices: &vertices,
+            from: 0,
+            to: rows.len(),
+            next: size.vertices as u32,
+        };
+        let draft = draft_of(crew, all, size)?;
         let start = numbering.vertex(initial);
         drop(numbering);
         let game = game_of(alloc, draft.into_parts())?;

@@ -1,5 +1,6 @@
 pub mod Kept
 pub mod Flaws
+mod Ranges
 pub mod Players
 pub mod Lexicographic
 pub mod Priorities

@@ -5,9 +5,11 @@ ghost use Rattle.std.specs.Prelude.{◌≡◌, ◌↔◌, IsOk, IfErr, IfOk};
 ghost use Rattle.pb_game.specs.Certificates.{IsCertificate};
 ghost use Rattle.pb_game.specs.Flaws.{IsFirstFlaw};
 
-use crate::{Checked, check};
+use crate::Checked;
+use crate::first_flaw::flaw_by;
 use pb_game::{Flaw, Game, Solution};
 use std::marker::Model;
+use std::thread::Threads;
 
 /// A solution that the checker has certified for a game. Only [`certify`] makes one. Contracts see
 /// the solution.
@@ -45,20 +47,26 @@ impl Certified {
     }
 }
 
-/// Runs the checker on a solution, and keeps it where it is a certificate of the game.
+/// Runs the checker on a solution, by so many workers, and keeps it where it is a certificate of
+/// the game. What the workers do changes nothing of the answer.
 ///
 /// # Errors
 ///
 /// The solution with its first flaw, where it is no certificate.
-pub fn certify(game: &Game, solution: Solution) -> Result<Certified, (Solution, Flaw)>
+pub fn certify<R: Threads + Sync>(
+    rt: &R,
+    workers: u32,
+    game: &Game,
+    solution: Solution,
+) -> Result<Certified, (Solution, Flaw)>
     ensures certificate { IsOk result ↔ IsCertificate game.now solution }
     ensures kept { IfOk result (λ certified. certified ≡ solution) }
     ensures handed_back { IfErr result (λ refused. refused.0 ≡ solution) }
     ensures flaw { IfErr result
         (λ refused. IsFirstFlaw game.now solution refused.1.vertex refused.1.rule) }
 {
-    match check(game, &solution) {
-        Ok(_) => Ok(Certified { solution }),
-        Err(flaw) => Err((solution, flaw)),
+    match flaw_by(rt, workers, game, &solution) {
+        None => Ok(Certified { solution }),
+        Some(flaw) => Err((solution, flaw)),
     }
 }

@@ -8,18 +8,21 @@
 
 mod certified;
 mod edges;
+mod first_flaw;
 pub mod laws;
 mod position;
+mod range;
 mod rules;
 
-ghost use Rattle.std.specs.Prelude.{◌≡◌, ◌*◌, ◌<◌, ◌↔◌, length, IsTrue, IsOk, IfErr, IfOk};
-ghost use Rattle.pb_game.specs.Games.{vertex_count, priority_count};
-ghost use Rattle.pb_game.specs.Solutions.{winner_of, HasLengths};
+ghost use Rattle.std.specs.Prelude.{◌≡◌, ◌<◌, ◌↔◌, IsTrue, IsOk, IfErr, IfOk};
+ghost use Rattle.pb_game.specs.Games.{vertex_count};
+ghost use Rattle.pb_game.specs.Solutions.{winner_of};
 ghost use Rattle.pb_game.specs.Certificates.{IsCertificate};
 ghost use Rattle.pb_game.specs.Flaws.{IsFirstFlaw};
 
 pub use certified::{Certified, certify};
-use pb_game::{CertificateRule, Flaw, Game, Player, Solution};
+use first_flaw::flaw_of;
+use pb_game::{Flaw, Game, Player, Solution};
 pub use position::Position;
 
 /// A solution that is a certificate of its game, and that the checker has passed: only [`check`]
@@ -88,32 +91,8 @@ pub fn check<'a>(game: &'a Game, solution: &'a Solution) -> Result<Checked<'a>, 
     ensures same_game { IfOk result (λ checked. checked.game.now ≡ game.entry.now) }
     ensures same_solution { IfOk result (λ checked. checked.solution.now ≡ solution.entry.now) }
 {
-    if !has_lengths(game, solution) {
-        return Err(Flaw {
-            vertex: 0,
-            rule: CertificateRule::Length,
-        });
+    match flaw_of(game, solution) {
+        Some(flaw) => Err(flaw),
+        None => Ok(Checked { game, solution }),
     }
-    for vertex in 0..game.len() {
-        let position = Position {
-            game,
-            solution,
-            number: vertex,
-        };
-        if let Some(rule) = position.first_rule() {
-            return Err(Flaw { vertex, rule });
-        }
-    }
-    Ok(Checked { game, solution })
-}
-
-/// Whether the lists have their lengths.
-fn has_lengths(game: &Game, solution: &Solution) -> bool
-    ensures { IsTrue result ↔ HasLengths game.now solution.now }
-{
-    let vertices = game.len() as usize;
-    let priorities = game.greatest_priority() as usize + 1;
-    solution.winner.len() == vertices
-        && solution.choice.len() == vertices
-        && solution.counts.len() == vertices * priorities
 }

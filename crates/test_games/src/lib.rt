@@ -16,6 +16,8 @@ mod lifting;
 #[cfg(test)]
 mod measures;
 #[cfg(test)]
+mod ranges;
+#[cfg(test)]
 mod search;
 #[cfg(test)]
 mod tests;

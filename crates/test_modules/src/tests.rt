@@ -6,7 +6,7 @@ ghost use Rattle.pb_instances.specs.Seats.{module_of_table, IsSeatOf};
 use crate::alone::work_alone;
 use crate::modules::all_others;
 use crate::steps::{close, finish, give_back, mark, status, take, three_statuses};
-use pb_command_solver::{BuiltModule, build_explored};
+use pb_command_solver::{BuiltModule, Crew, build_explored};
 use pb_exploration::{Core, Event, Explored, Limits, NoGate, NotAllowed, StepError, explore};
 use pb_exploration_reached::explore_reached;
 use pb_fixpoint_trees::{IndexedRows, Kind, ReadRows, Token};
@@ -214,7 +214,12 @@ fn one_worker(rt: HostRuntime) -> Result<(), Fail> {
     }
     let gathered = Explored::gather(alloc, &module, &statuses)?;
     assert!(rt; are_all_others(gathered.rows()));
-    let BuiltModule { built, .. } = build_explored(alloc, &module, Counting::Declared, gathered)?;
+    let crew = Crew {
+        rt: &rt,
+        alloc,
+        workers: 2,
+    };
+    let BuiltModule { built, .. } = build_explored(&crew, &module, Counting::Declared, gathered)?;
     let solution = pb_zielonka::solve(&rt, alloc, &built.game)?;
     match check(&built.game, &solution) {
         Ok(checked) => assert!(rt; checked.truth(built.start)),

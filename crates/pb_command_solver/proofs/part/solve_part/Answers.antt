@@ -7,8 +7,8 @@ use Rattle.pb_command_solver.proofs.Parts.{some_rows, same_of}
 use Rattle.pb_command_solver.proofs.part.solve_part.Goals as goal
 use Rattle.pb_command_solver.proofs.part.solve_part.Goals.{else-truth-part-via-then-truth-part+else-not-part, else-truth-part-via-else-truth-part}
 
-pub build_rows-requires : goal.build_rows-requires
-build_rows-requires g c =
+pub build_rows-requires-after_bounds : goal.build_rows-requires-after_bounds
+build_rows-requires-after_bounds g c κs within =
     some_rows c.args.verified.now c.args.part.rows c.instances_have_trees.ensures c.args.part.truth c.requires.assumed
 
 pub returns-clause-enough : goal.returns-clause-enough
