@@ -1,0 +1,3 @@
+mod Satisfied
+mod Declared
+mod Translated

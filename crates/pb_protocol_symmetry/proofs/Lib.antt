@@ -1,0 +1,12 @@
+mod Carriers
+mod Distinct
+mod Counts
+mod Terms
+mod Test
+mod Elements
+mod States
+mod Copies
+mod Steps
+mod Shapes
+mod Satisfied
+mod ProtocolTest

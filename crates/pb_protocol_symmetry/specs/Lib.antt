@@ -1,0 +1,9 @@
+pub mod Permutation
+pub mod Kinds
+pub mod Laws
+pub mod Test
+pub mod States
+pub mod Steps
+pub mod Satisfaction
+pub mod ProtocolTest
+pub mod Examples
