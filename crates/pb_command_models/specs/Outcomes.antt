@@ -11,6 +11,7 @@ use Rattle.pb_protocol_tree.specs.Form.{ProtocolForm}
 use Rattle.pb_model_properties.specs.declared.solved.SolvedModel.{SolvedModel}
 use Rattle.pb_model_properties.specs.declared.verdicts.Verdict.{Verdict}
 use Rattle.pb_model_properties.specs.declared.verdicts.Verdict.TheVariants.{True, False, Unknown}
+use Rattle.pb_model_properties.specs.Joint.{IsSatisfiedAt}
 use Rattle.pb_model_properties.specs.Negations.{IsNegationOf, IsRefusedNegation}
 use Rattle.pb_model_properties.specs.Refusals.{is_limit, is_limit_rule, told_places}
 use Rattle.pb_model_properties.specs.Refusals.{IsIllTypedText}
@@ -69,14 +70,28 @@ pub record IsTextAt (model : ModelForm) (asked : AskedText) : Type 0 where
   pub stands : slice_get model.properties asked.place ≡ Some property
   pub text : IsPropertyText model property asked.text
 
--- these are found of the properties at the places of the texts, in order, where the bytes say a
--- protocol in whose place a model is solved whose properties' texts these are
+-- the model satisfies the properties at these places
+abbrev pub AreSatisfied : List ℕ → ModelForm → Type 0
+AreSatisfied places model = All (IsSatisfiedAt model) places
+
+-- this is found of the property at the place of the text, where the bytes say a protocol in whose
+-- place a model is solved whose property's text that is, and which satisfies those at these places
+pub record FindsByText {E : Type 0} (asked : AskedText) (satisfied : List ℕ) (counts : Bool)
+    (old new : List ℕ) (result : Result PropertyFinding E) : Type 0 where
+  pub same : new ≡ old
+  pub place : IfOk result (λ found. found.place ≡ asked.place)
+  pub found : IfOk result (λ found. (model : ModelForm) (said : IsModelOf old model)
+      → IsTextAt model asked → AreSatisfied satisfied model
+      → IsPropertyFound counts said.protocol model found)
+
+-- so of the properties at the places of the texts, in order
 pub record AreFoundByTexts (counts : Bool) (bytes : List ℕ) (texts : List AskedText)
-    (findings : List PropertyFinding) : Type 0 where
+    (satisfied : List ℕ) (findings : List PropertyFinding) : Type 0 where
   pub places :
       map (λ (f : PropertyFinding). f.place) findings
       ≡ map (λ (asked : AskedText). asked.place) texts
   pub found : (model : ModelForm) (said : IsModelOf bytes model) → All (IsTextAt model) texts
+      → AreSatisfied satisfied model
       → All (IsPropertyFound counts said.protocol model) findings
 
 -- the text of the property isn't well typed, by another rule than that of limits

@@ -6,6 +6,7 @@ ghost use Rattle.pb_command_models.specs.Writes.{DeliversVerdicts, ReportsVerdic
 
 use crate::decision::{DecisionOptions, findings_of};
 use crate::finding_lines::lines_of;
+use crate::joint::satisfied_together;
 use crate::property_text::asked_texts;
 use crate::reached_steps::steps_on;
 use crate::step_lines::{push_lines_of_steps, status_of_checked};
@@ -49,7 +50,8 @@ fn checked_report<R: Threads + Sync, G: Progress + Sync>(
         solving: solve_options(options.solving),
         counts: options.counts,
     };
-    let findings = findings_of(context, input, texts, deciding)?;
+    let satisfied = satisfied_together(context, &solved, &places, deciding)?;
+    let findings = findings_of(context, input, texts, &satisfied, deciding)?;
     let steps = steps_on(context, &solved, options)?;
     let properties = &solved.typed.model.properties;
     let mut lines = lines_of(alloc, properties, &findings, options.counts)?;
@@ -72,9 +74,11 @@ fn checked_report<R: Threads + Sync, G: Progress + Sync>(
 ///
 /// Each text is explored and solved once, as `solve_text` solves a text; those of negations only
 /// where a property isn't satisfied and instances outside were called, and those that ask for steps
-/// where counts are asked for. Without counts the instances nearest to the initial one are tried
-/// before: where those of the text show that the property is satisfied, or those of its negation
-/// that this is, there is no more to do.
+/// where counts are asked for. Without counts the invariants among the properties are explored
+/// together first, by one text: where it shows that all of them are satisfied, none is explored by
+/// itself. Of each text the instances nearest to the initial one are tried before all: where those
+/// of the text show that the property is satisfied, or those of its negation that this is, there is
+/// no more to do.
 ///
 /// # Errors
 /// `Text` and `Typing` say which rule the model breaks, or the text of a property that is asked

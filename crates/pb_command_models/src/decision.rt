@@ -1,11 +1,11 @@
 //! What is found of properties, by what becomes of their texts and of those of their negations.
-ghost use Rattle.std.specs.Prelude.{◌≡◌, Bool, true, IfOk};
+ghost use Rattle.std.specs.Prelude.{◌≡◌, Bool, true, Contains, IfOk};
 ghost use Rattle.std.specs.List.{All};
 ghost use Rattle.pb_model_properties.specs.Negations.{HasPropertyAt};
 ghost use Rattle.pb_command_models.specs.Models.{HasModel};
-ghost use Rattle.pb_command_models.specs.Outcomes.{AreFoundByTexts, FindsByModule, FindsByOutcome};
-ghost use Rattle.pb_command_models.specs.Outcomes.{IsDecisionBy, IsDeniedAt, IsModuleAt, IsOutcomeAt};
-ghost use Rattle.pb_command_models.specs.Outcomes.{IsTextAt};
+ghost use Rattle.pb_command_models.specs.Outcomes.{AreFoundByTexts, AreSatisfied, FindsByModule};
+ghost use Rattle.pb_command_models.specs.Outcomes.{FindsByOutcome, FindsByText, IsDecisionBy};
+ghost use Rattle.pb_command_models.specs.Outcomes.{IsDeniedAt, IsModuleAt, IsOutcomeAt, IsTextAt};
 
 use crate::finding::{Finding, PropertyFinding};
 use crate::negation::{InputWithNegation, negation_module};
@@ -157,7 +157,43 @@ fn finding_by<R: Threads + Sync, G: Progress + Sync>(
     }
 }
 
-/// What is found of each property, by its text.
+// Whether a place is among these.
+fn is_among(places: &[usize], place: usize) -> bool
+    ensures { result ≡ true → Contains places.now place }
+{
+    for known in places {
+        if *known == place {
+            return true;
+        }
+    }
+    false
+}
+
+// What is found of a property, by its text. Where counts aren't asked for and the property is known
+// to be satisfied, there is no more to do.
+fn finding_of_text<R: Threads + Sync, G: Progress + Sync>(
+    context: &Context<'_, R, G>,
+    input: &mut InputWithNegation<'_>,
+    asked: AskedText,
+    satisfied: &[usize],
+    options: DecisionOptions,
+) -> Result<PropertyFinding, AllocError>
+    requires { HasModel input.now
+        (λ model. IsTextAt model asked × AreSatisfied satisfied.now model) }
+    ensures { FindsByText asked satisfied.now options.counts input.old input.new result }
+{
+    let place = asked.place;
+    if !options.counts && is_among(satisfied, place) {
+        drop(asked);
+        let finding = Finding::Shown(true);
+        return Ok(PropertyFinding { place, finding });
+    }
+    let made = asked_module(context.alloc, asked)?;
+    let finding = finding_by(context, input, &made, options)?;
+    Ok(PropertyFinding { place, finding })
+}
+
+/// What is found of each property, by its text. The properties at these places are satisfied.
 ///
 /// # Errors
 /// Memory was refused.
@@ -165,19 +201,19 @@ pub(crate) fn findings_of<R: Threads + Sync, G: Progress + Sync>(
     context: &Context<'_, R, G>,
     input: ShortInput<'_>,
     texts: Vec<AskedText>,
+    satisfied: &[usize],
     options: DecisionOptions,
 ) -> Result<Vec<PropertyFinding>, AllocError>
-    requires { HasModel input.bytes.now (λ model. All (IsTextAt model) texts.items) }
-    ensures { IfOk result (λ findings.
-        AreFoundByTexts options.counts input.entry.bytes.now texts.items findings.items) }
+    requires { HasModel input.bytes.now
+        (λ model. All (IsTextAt model) texts.items × AreSatisfied satisfied.now model) }
+    ensures { IfOk result (λ findings. AreFoundByTexts options.counts input.entry.bytes.now
+        texts.items satisfied.now findings.items) }
 {
     let mut asked_input = InputWithNegation::new(input);
     let mut findings = Vec::new(context.alloc);
     'texts: for asked in texts {
-        let made = asked_module(context.alloc, asked)?;
-        let finding = finding_by(context, &mut asked_input, &made, options)?;
-        let place = made.place;
-        findings.push(PropertyFinding { place, finding })?;
+        let found = finding_of_text(context, &mut asked_input, asked, satisfied, options)?;
+        findings.push(found)?;
     }
     Ok(findings)
 }

@@ -9,8 +9,9 @@ use pb_report::Answer;
 pub enum Finding {
     /// The verdict on it, and what was counted of its text.
     Decided(Verdict, Answer),
-    /// What the instances nearest to the initial one show, where counts aren't asked for: that it
-    /// is satisfied; or that its negation is, and so it isn't.
+    /// What is shown where counts aren't asked for, by the instances nearest to the initial one or
+    /// together with other properties: that it is satisfied; or that its negation is, and so it
+    /// isn't.
     Shown(bool),
     /// It is refused: its text is too large, or that of its negation, where the verdict needs it.
     Refused(PropertyExcess),

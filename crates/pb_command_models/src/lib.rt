@@ -8,6 +8,7 @@ mod explained;
 mod explained_finding;
 mod finding;
 mod finding_lines;
+mod joint;
 mod laws;
 mod models;
 mod negation;

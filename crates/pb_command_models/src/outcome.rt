@@ -1,5 +1,5 @@
 //! What becomes of the texts of properties.
-ghost use Rattle.std.specs.Prelude.{IfOk, IfSome};
+ghost use Rattle.std.specs.Prelude.{◌≡◌, true, IfOk, IfSome};
 ghost use Rattle.pb_command_models.specs.Outcomes.{IsEarlyBy, IsOutcomeBy, IsTruthBy};
 
 use crate::property_module::PropertyModule;
@@ -96,5 +96,25 @@ pub(crate) fn outcome_of<R: Threads + Sync, G: Progress + Sync>(
     match property {
         PropertyModule::TooLarge(excess) => Ok(Outcome::TooLarge(*excess)),
         PropertyModule::Verified(verified) => answered(context, verified, options),
+    }
+}
+
+/// Whether a property is shown to be satisfied. It isn't where its text is too large.
+///
+/// # Errors
+/// Memory was refused.
+pub(crate) fn is_satisfied<R: Threads + Sync, G: Progress + Sync>(
+    context: &Context<'_, R, G>,
+    property: &PropertyModule,
+    options: SolveOptions,
+) -> Result<bool, AllocError>
+    ensures { IfOk result (λ satisfied. satisfied ≡ true → IsTruthBy property.now true) }
+{
+    if let Some(truth) = early_truth(context, property, options)? {
+        return Ok(truth);
+    }
+    match outcome_of(context, property, options)? {
+        Outcome::Answered(answer) => Ok(answer.truth),
+        Outcome::TooLarge(_) => Ok(false),
     }
 }

@@ -93,6 +93,12 @@ property-decided model p t typed says =
     ap answer (text-said (model_form model) p.name.place p.formula t says)
     ∙ ∥∥₁_elim typed (hlevel props) (λ h. formulas_are_decided (model_form model) (erased_formula p.formula) h.rules)
 
+-- the text of whichever formula has the answer
+pub formula-decided : (model : declared_model.Model) (here : Place) (f : FormulaForm) (t : SpecForm) → ∥ IsTypedModel (model_form model) ∥₁ → t ≡ placed (model_form model) here f
+    → answer (text.erase t) ≡ satisfies (model_of model) (erased_formula f)
+formula-decided model here f t typed says =
+    ap answer (text-said (model_form model) here f t says) ∙ ∥∥₁_elim typed (hlevel props) (λ h. formulas_are_decided (model_form model) (erased_formula f) h.rules)
+
 -- ---- the text in which each step stands
 
 pub steps-typed : (model : ModelForm) (t : SpecForm) → ∥ IsTypedModel model ∥₁ → t ≡ placed model model.initial.place (every_step_form model.initial.place) → (IsWellTypedWithin (instance_limit Reached) (text.erase t) → ⊥) → ⊥

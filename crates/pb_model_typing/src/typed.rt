@@ -6,9 +6,10 @@ ghost use Rattle.pb_base.specs.OrMemory.{IfFault, IfRefused, OnRefused};
 ghost use Rattle.pb_text_tree.specs.Form.{spec_form};
 ghost use Rattle.pb_text_meaning.specs.Erase.{erase};
 ghost use Rattle.pb_text_meaning.specs.Meaning.{answer};
-ghost use Rattle.pb_model_tree.specs.Form.{PropertyForm, model_form};
+ghost use Rattle.pb_model_tree.specs.Form.{PropertyForm, formula_form, model_form};
 ghost use Rattle.pb_model_meaning.specs.Erase.{erased_formula, model_of};
 ghost use Rattle.pb_model_meaning.specs.Satisfaction.{satisfies};
+ghost use Rattle.pb_model_names.specs.View.{formula_of};
 ghost use Rattle.pb_model_translation.specs.Placed.{every_step_form, placed};
 ghost use Rattle.pb_model_typing.specs.Texts.{HasTypedText, IsFaultFromText, IsModelFault};
 ghost use Rattle.pb_model_typing.specs.Texts.{IsTypedModel, placed_property};
@@ -16,8 +17,9 @@ ghost use Rattle.pb_model_typing.specs.Texts.{IsTypedModel, placed_property};
 use crate::rules::check_rules;
 use crate::texts::{check_steps_text, every_step, typed_text};
 use pb_model_translator::translate_formula;
-use pb_model_tree::Model;
+use pb_model_tree::{Formula, Model};
 use pb_sorts::Counting;
+use pb_text_tree::Place;
 use pb_typing::{Typed, check_counting};
 use pb_typing_declarations::TypeError;
 use std::alloc::{AllocError, Global};
@@ -97,6 +99,30 @@ pub fn property_text(alloc: Global, typed: &TypedModel, property: usize) -> Resu
 {
     let property = &typed.model.properties[property];
     typed_text(alloc, &typed.model, &property.formula, property.name.place)
+}
+
+/// The text of a formula of a model, whose equations have their names at a place, where it is well
+/// typed. Its answer is true exactly where the model satisfies the formula.
+///
+/// # Errors
+/// As with `property_text`.
+pub fn formula_text(
+    alloc: Global,
+    typed: &TypedModel,
+    formula: &Formula,
+    place: Place,
+) -> Result<Typed, TypeError>
+    ensures text { IfOk result (λ text. spec_form text.spec
+        ≡ placed (model_form typed.now.model) place (formula_form formula.now)) }
+    ensures typed { OnOk result (HasTypedText (model_of typed.now.model) (formula_of formula.now)) }
+    ensures answer { IfOk result (λ text. answer (erase (spec_form text.spec))
+        ≡ satisfies (model_of typed.now.model) (formula_of formula.now)) }
+    ensures fails { IfRefused result
+        (IsFaultFromText (model_form typed.now.model) (place, formula_form formula.now)) }
+    ensures ill_typed { OnRefused result
+        (¬ HasTypedText (model_of typed.now.model) (formula_of formula.now)) }
+{
+    typed_text(alloc, &typed.model, formula, place)
 }
 
 /// The text in which each step stands, that of `nu X . [true] X`, which is well typed, with its

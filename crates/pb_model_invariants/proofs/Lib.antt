@@ -1,0 +1,3 @@
+mod CopyLemmas
+mod Chains
+mod Law
