@@ -76,9 +76,9 @@ fn checked_report<R: Threads + Sync, G: Progress + Sync>(
 /// where a property isn't satisfied and instances outside were called, and those that ask for steps
 /// where counts are asked for. Without counts the invariants among the properties are explored
 /// together first, by one text: where it shows that all of them are satisfied, none is explored by
-/// itself. Of each text the instances nearest to the initial one are tried before all: where those
-/// of the text show that the property is satisfied, or those of its negation that this is, there is
-/// no more to do.
+/// itself, nor refused where its own text is too large. Of each text the instances nearest to the
+/// initial one are tried before all: where those of the text show that the property is satisfied,
+/// or those of its negation that this is, there is no more to do.
 ///
 /// # Errors
 /// `Text` and `Typing` say which rule the model breaks, or the text of a property that is asked
