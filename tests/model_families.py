@@ -1,4 +1,4 @@
-"""Families of models that are made to be hard where they are expanded or packed: each takes a size and gives a model. Of growth.py."""
+"""Families of models that are made to be hard where they are expanded, packed or translated: each takes a size and gives a model. Of growth.py."""
 
 
 def doubled_indices(size, values):
@@ -28,6 +28,15 @@ def names_of_definitions(size):
     return f"model state b: Bool;\ndefine {defined};\nstep s: {' && '.join(names)} -> skip;\ninit true;\nproperty p = true;\n"
 
 
+def copies(size):
+    """A property with so many copies, each of two equations: all their names are to be apart."""
+    return (
+        f"sort Copy = Nat; Digit = Nat;\n%range Copy 1 {size}\n%range Digit 0 3\nmodel state n: Digit;\n"
+        f"step up: n < 3 -> n := n + 1; down: n > 0 -> n := n - 1;\ninit 0;\n"
+        f"property p = forall k: Copy . always (n == k => [up] n != k);\n"
+    )
+
+
 def counted(count, last, stride):
     """A counter beside a number up to `last` that goes round by a stride: `count` states are reached, and `last` times as many declared."""
     return (
@@ -53,6 +62,8 @@ MODELS = (
     ("indices of one value that double", lambda size: doubled_indices(size, ("a",)), 14, 1, None),
     ("names of nine variables", names_of_nine_variables, 400, 0, None),
     ("names of definitions", names_of_definitions, 400, 0, None),
+    ("copies of a property", copies, 20, 0, None),
+    ("more copies than a text may have", copies, 66, 1, None),
     ("reached states far apart", far_apart, 400, 0, None),
     ("declared states", declared, 15, 0, 1.15),
 )
