@@ -56,7 +56,8 @@ impl Machine {
     }
 
     /// Pushes the value of a slot.
-    fn get(&mut self, registers: &mut Registers, slot: u8)
+    #[inline(always)]
+    pub(crate) fn get(&mut self, registers: &mut Registers, slot: u8)
         requires { (p : Program) × IsReady p self.old registers.old (op.Get slot) }
         ensures { (p : Program) → Executes p (op.Get slot) self.old registers.old self.new
             registers.new true }
@@ -64,7 +65,8 @@ impl Machine {
         self.push(registers, self.slot(slot as usize));
     }
 
-    fn push_int(&mut self, registers: &mut Registers, value: i64)
+    #[inline(always)]
+    pub(crate) fn push_int(&mut self, registers: &mut Registers, value: i64)
         requires { (p : Program) × IsReady p self.old registers.old (op.PushInt value) }
         ensures { (p : Program) → Executes p (op.PushInt value) self.old registers.old self.new
             registers.new true }
@@ -89,7 +91,7 @@ impl Machine {
     }
 
     /// Executes one instruction. Answers whether the run goes on.
-    fn execute(
+    pub(crate) fn execute(
         &mut self,
         registers: &mut Registers,
         layout: &Layout,
@@ -186,10 +188,10 @@ impl Machine {
         self.begin(&code)?;
         let mut registers = Registers { place: 0, depth: 0 };
         let mut left = code.steps;
+        // Each turn executes one instruction or more, so that there are turns enough.
         while left > 0 {
             left -= 1;
-            let op = code.instruction(registers.place);
-            if !self.execute(&mut registers, layout, code.loops, op) {
+            if !self.advance(&mut registers, layout, &code) {
                 return Ok(());
             }
         }
