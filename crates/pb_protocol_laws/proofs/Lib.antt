@@ -14,6 +14,7 @@ pub mod Models
 pub mod Packed
 pub mod Moves
 mod OwnValues
+mod InstanceSteps
 mod NamedSteps
 pub mod Words
 pub mod PlainWords

@@ -11,11 +11,13 @@ use Rattle.pb_protocol_tree.specs.Form.{ProtocolForm}
 use Rattle.pb_protocol_meaning.specs.Syntax.{Protocol, Property, StepSet}
 use Rattle.pb_protocol_meaning.specs.Steps.{is_state, initial_state, successors}
 use Rattle.pb_protocol_meaning.specs.Satisfaction.{satisfies}
-use Rattle.pb_protocol_meaning.specs.Erase.{erase}
+use Rattle.pb_protocol_meaning.specs.Erase.{erase, erased_formula, erased_property}
 use Rattle.pb_protocol_unfolding.specs.Plain.{plain, plain_formula, PlainModelsKeepTheirMeaning}
 use Rattle.pb_protocol_unfolding.specs.Unfolding.{unfolded, unfolded_property}
 use Rattle.pb_protocol_folding.specs.FoldedModels.{folded_property}
 use Rattle.pb_protocol_unfolding.specs.ModelLaws.{flat_formula, flat_model, FlatModelsSatisfyTheSame, FlatModelsGoTheSame}
+use Rattle.pb_protocol_unfolding.proofs.WholeSteps.{properties_name_no_whole}
+use Rattle.pb_model_runs.proofs.Elements.{mapped}
 use Rattle.pb_protocol_laws.specs.Solved.{itself, GoesAlong}
 use Rattle.pb_protocol_laws.specs.SolvedLaws.{PlainModelsAreSolved, UnfoldedModelsAreSolved}
 use Rattle.pb_protocol_laws.proofs.Properties.{are_plain, are_same}
@@ -40,9 +42,12 @@ pub unfolded_models_are_solved : FlatModelsSatisfyTheSame → FlatModelsGoTheSam
 unfolded_models_are_solved same goes protocol m hides made named =
     let along = goes (erase protocol) hides in
     record {
-      properties = are_same protocol m (flat_formula (erase protocol))
-          (λ f. subst (λ (x : model.Model). model_satisfaction.satisfies x (flat_formula (erase protocol) f) ≡ satisfies (erase protocol) f) (sym made) (same (erase protocol) hides f))
-          protocol.properties m.properties named
+      properties = are_same protocol m (flat_formula (erase protocol)) protocol.properties
+          (λ p among.
+          let f = erased_formula p.formula in
+          subst (λ (x : model.Model). model_satisfaction.satisfies x (flat_formula (erase protocol) f) ≡ satisfies (erase protocol) f) (sym made)
+          (same (erase protocol) hides f (properties_name_no_whole (erase protocol) (erased_property p) (mapped erased_property protocol.properties p among))))
+          m.properties named
           (ap (λ (x : model.Model). x.properties) made
           ∙ twice (unfolded_property (erase protocol)) (folded_property (unfolded (erase protocol))) (erase protocol).properties);
       runs = subst (λ (x : model.Model). GoesAlong (erase protocol) x itself) (sym made)

@@ -19,17 +19,17 @@ use Rattle.pb_protocol_meaning.specs.Steps.{data_of, fits, successors}
 use Rattle.pb_protocol_unfolding.specs.PutIn.{TermScope}
 use Rattle.pb_protocol_unfolding.specs.Unfolding.{Element, Instance, instances, instance_name, all_elements, name_of, variable_of, variables_of, written, unfolded, unfolded_assignment, unfolded_set, unfolded_step, named_steps, is_in_set, values_of}
 use Rattle.pb_protocol_unfolding.specs.Hygiene.{HidesNothing}
-use Rattle.pb_protocol_unfolding.specs.ModelLaws.{flat_model, StepsAreUnfolded}
+use Rattle.pb_protocol_unfolding.specs.ModelLaws.{flat_model}
 use Rattle.pb_protocol_unfolding.specs.Plain.{plain, PlainModelsKeepTheirMeaning}
+use Rattle.pb_protocol_unfolding.proofs.FlatModels.{flat-hides}
 use Rattle.pb_protocol_unfolding.proofs.States.{carriers-same}
-use Rattle.pb_protocol_unfolding.proofs.WrittenLaws.{value-self}
 use Rattle.pb_protocol_packing.specs.Groups.{groups_of, packed}
 use Rattle.pb_protocol_packing.specs.Laws.{StatesStandForStates}
 use Rattle.pb_protocol_packing.specs.Unpacked.{unpacked}
 use Rattle.pb_protocol_packing.specs.Unpacked as packed_states
 use Rattle.pb_protocol_laws.specs.NamedSteps.{PlainModelsGoByNames, UnfoldedModelsGoByNames, PackedModelsGoByNames}
-use Rattle.pb_protocol_laws.specs.NamedSteps.{FlatStepsAreInstances, EachFlatStepIsAnInstance, InstancesAreApart}
-use Rattle.pb_protocol_laws.proofs.OwnValues.{AreThemselves, own-themselves}
+use Rattle.pb_protocol_laws.specs.NamedSteps.{instance_set, FlatStepsAreInstances, EachFlatStepIsAnInstance, InstancesAreApart}
+use Rattle.pb_protocol_laws.proofs.InstanceSteps.{by-instance, instance-leads, one-of-a-name}
 use Rattle.pb_protocol_laws.proofs.Packed.{StatesSayStates}
 use Rattle.pb_protocol_laws.proofs.States.{stands_through}
 
@@ -44,94 +44,14 @@ plain_models_go_by_names law m is_plain x A s t e within among =
 
 -- ---- the unfolded model
 
--- its names are apart, as folding asks
-hides-names : (m : Protocol) → HidesNothing m → HidesNoNames (unfolded m)
-hides-names m hides = record {
-  variables = subst AreDistinct (sym (same (all_elements m))) hides.elements;
-  values = subst (AreNot (enumerators_in m.sorts)) (sym (same (all_elements m))) hides.values;
-  own = none (names_of (variables_of m)) (instances m);
-  own_values = none (enumerators_in m.sorts) (instances m);
-  assignments = once (instances m);
-}
-  where
-    same : (es : List Element) → names_of (map variable_of es) ≡ map name_of es
-    same [] = refl
-    same (e ∷ es) = ap (λ xs. name_of e ∷ xs) (same es)
-
-    own : (names : List Name) → AreNot names []
-    own [] = tt
-    own (x ∷ names) = (tt, own names)
-
-    none : (names : List Name) (is : List Instance) → HaveNoneOf names (map (unfolded_step m) is)
-    none names [] = tt
-    none names (i ∷ is) = (own names, none names is)
-
-    assigned : (ρ : TermScope) (assignments : List protocol.Assignment) (es : List Element)
-        → map (λ (b : model.Assignment). b.variable) (map (unfolded_assignment m ρ assignments) es) ≡ map name_of es
-    assigned ρ assignments [] = refl
-    assigned ρ assignments (e ∷ es) = ap (λ xs. name_of e ∷ xs) (assigned ρ assignments es)
-
-    once : (is : List Instance) → AssignOnce (map (unfolded_step m) is)
-    once [] = tt
-    once (i ∷ is) = (subst AreDistinct (sym (assigned (written i.step.variables i.own) i.step.assignments (all_elements m))) hides.elements, once is)
-
--- a set has the step of each of its names
-has-among : (xs : List Name) (x y : Name) → Contains xs x → same_name x y ≡ true → model_steps.has_step (named_steps xs) y ≡ true
-has-among [] x y h e = absurd (omega (arith, h.1))
-has-among (z ∷ []) x y h e = elim (either_of z [] x h) [
-  | inl same ↦ ap (λ (w : Name). same_name w y) same ∙ e
-  | inr none ↦ absurd (omega (arith, none.1))
-]
-has-among (z ∷ w ∷ xs) x y h e = elim (either_of z (w ∷ xs) x h) [
-  | inl same ↦ or-here (same_name z y) (model_steps.has_step (named_steps (w ∷ xs)) y) (ap (λ (v : Name). same_name v y) same ∙ e)
-  | inr later ↦ or-later (same_name z y) (model_steps.has_step (named_steps (w ∷ xs)) y) (has-among (w ∷ xs) x y later e)
-]
-
--- more steps lead to more states
-more-lead : (m : model.Model) (A B : model.StepSet) → ((x : Name) → model_steps.has_step A x ≡ true → model_steps.has_step B x ≡ true)
-    → (s t : State) → Contains (model_steps.successors m A s) t → Contains (model_steps.successors m B s) t
-more-lead m A B more s t h =
-    let found = in-some (model_steps.successors_by m s) (model_steps.steps_in m A) t h in
-    let a = found.0 in
-    let named = passes (λ (b : model.Step). model_steps.has_step A b.name) m.steps a found.1 in
-    let among = unfiltered (λ (b : model.Step). model_steps.has_step A b.name) m.steps a found.1 in
-    of-some (model_steps.successors_by m s) (model_steps.steps_in m B) a t
-    (passing (λ (b : model.Step). model_steps.has_step B b.name) m.steps a among (more a.name named)) found.2
-
-module _ (m : Protocol) where
-  -- written values are the ones that they are
-  fits-itself : (ks : List Term) → AreThemselves m ks → fits m [] (map Some ks) (values_of m ks) ≡ true
-  fits-itself [] h = refl
-  fits-itself (k ∷ ks) h =
-      both-true _ (fits m [] (map Some ks) (values_of m ks)) (ap (λ v. int_eq v (value (data_of m) [] k)) h.0 ∙ value-self (value (data_of m) [] k)) (fits-itself ks h.1)
-
-  -- the step of an instance, by its values
-  abbrev by_values : Instance → StepSet
-  by_values i = StepSet.With i.step.name (map Some i.own)
-
-  is-in-its-set : HidesNothing m → (i : Instance) → Contains (instances m) i → is_in_set m [] (by_values i) i ≡ true
-  is-in-its-set hides i among =
-      both-true (same_name i.step.name i.step.name) (fits m [] (map Some i.own) (values_of m i.own)) (same-self i.step.name) (fits-itself i.own (own-themselves m hides i among))
-
-  its-name : HidesNothing m → (i : Instance) → Contains (instances m) i → Contains (map instance_name (filter (is_in_set m [] (by_values i)) (instances m))) (instance_name i)
-  its-name hides i among =
-      mapped instance_name (filter (is_in_set m [] (by_values i)) (instances m)) i (passing (is_in_set m [] (by_values i)) (instances m) i among (is-in-its-set hides i among))
-
-  leads : HidesNothing m → StepsAreUnfolded → (i : Instance) → Contains (instances m) i → (s t : State)
-      → Contains (model_steps.successors (flat_model m) (model.StepSet.Only (instance_name i)) s) t → Contains (successors m [] (by_values i) s) t
-  leads hides law i among s t h =
-      let only = model.StepSet.Only (instance_name i) in
-      let unfolds : Contains (model_steps.successors (unfolded m) only s) t =
-      subst (λ (ts : List State). Contains ts t) (folding_keeps_steps (unfolded m) (hides-names m hides) only s).0 h in
-      subst (λ (ts : List State). Contains ts t) (law m hides (by_values i) s)
-      (more-lead (unfolded m) only (unfolded_set m [] (by_values i))
-      (λ x e. has-among (map instance_name (filter (is_in_set m [] (by_values i)) (instances m))) (instance_name i) x (its-name hides i among) e) s t unfolds)
-
-pub unfolded_models_go_by_names : StepsAreUnfolded → UnfoldedModelsGoByNames
-unfolded_models_go_by_names law m hides x A s t stands within among =
+pub unfolded_models_go_by_names : UnfoldedModelsGoByNames
+unfolded_models_go_by_names m hides x A s t stands within among =
     let i = stands.at in
-    let there = leads m hides law i stands.among s t
-    (subst (λ (y : Name). Contains (model_steps.successors (flat_model m) (model.StepSet.Only y) s) t) (sym stands.named) among) in (
+    let only = model.StepSet.Only (instance_name i) in
+    let folds = subst (λ (y : Name). Contains (model_steps.successors (flat_model m) (model.StepSet.Only y) s) t) (sym stands.named) among in
+    let unfolds : Contains (model_steps.successors (unfolded m) only s) t =
+    subst (λ (ts : List State). Contains ts t) (folding_keeps_steps (unfolded m) (flat-hides m hides) only s).0 folds in
+    let there = instance-leads m hides i stands.among s t (by-instance m hides i stands.among s t unfolds) in (
       t,
       subst (λ (B : StepSet). Contains (successors m [] B s) t) (sym stands.set) there,
       (ap (λ cs. is_within cs t) (carriers-same m hides), λ is. refl),
@@ -184,29 +104,7 @@ each_flat_step_is_an_instance m a h =
     subst (λ (xs : List Name). Contains xs a.name) (flat_steps_are_instances m) (mapped (λ (b : model.Step). b.name) (flat_model m).steps a h) in
     let found = of-mapped instance_name (filter (is_left_instance m) (instances m)) a.name named in
     let i = found.0 in
-    (StepSet.With i.step.name (map Some i.own), record { at = i; among = unfiltered (is_left_instance m) (instances m) i found.1; named = found.2; set = refl })
-
-not-again : (x : Name) (is : List Instance) (k : Instance) → IsNot x (map instance_name is) → Contains is k → instance_name k ≡ x → ⊥
-not-again x [] k new h e = absurd (omega (arith, h.1))
-not-again x (y ∷ is) k new h e = elim (either_of y is k h) [
-  | inl same ↦ true≢false (sym (same-self x) ∙ ap (λ (z : Name). same_name z x) (sym e ∙ ap instance_name (sym same)) ∙ new.0)
-  | inr later ↦ not-again x is k new.1 later e
-]
-
-one-of-a-name : (is : List Instance) → AreDistinct (map instance_name is) → (i j : Instance) → Contains is i → Contains is j → instance_name i ≡ instance_name j → i ≡ j
-one-of-a-name [] apart i j h k e = absurd (omega (arith, h.1))
-one-of-a-name (y ∷ is) apart i j h k e = elim (either_of y is i h) [
-  | inl first ↦
-      elim (either_of y is j k) [
-        | inl second ↦ sym first ∙ second
-        | inr later ↦ absurd (not-again (instance_name y) is j apart.0 later (sym e ∙ ap instance_name (sym first)))
-      ]
-  | inr earlier ↦
-      elim (either_of y is j k) [
-        | inl second ↦ absurd (not-again (instance_name y) is i apart.0 earlier (e ∙ ap instance_name (sym second)))
-        | inr later ↦ one-of-a-name is apart.1 i j earlier later e
-      ]
-]
+    (instance_set i, record { at = i; among = unfiltered (is_left_instance m) (instances m) i found.1; named = found.2; set = refl })
 
 pub instances_are_apart : InstancesAreApart
 instances_are_apart m hides i j first second e = one-of-a-name (instances m) hides.steps i j first second e

@@ -11,7 +11,7 @@ use Rattle.pb_protocol_meaning.specs.Syntax.{Definition, Step, Protocol}
 use Rattle.pb_protocol_meaning.specs.Meaning.{Functions, no_functions, meaning, are_as_many, with_definition, with_definitions}
 use Rattle.pb_protocol_meaning.specs.Steps.{data_of, functions_at_start}
 use Rattle.pb_protocol_unfolding.specs.Hygiene.{HidesNothing, definition_names}
-use Rattle.pb_protocol_unfolding.specs.Unfolding.{Instance, instances, instances_of}
+use Rattle.pb_protocol_unfolding.specs.Unfolding.{Instance, instances, instances_of, is_whole, whole_step, with_own}
 use Rattle.pb_protocol_unfolding.specs.Written.{written_by, written_within, written_values, written_tuples}
 
 -- ---- names that no definition has
@@ -126,14 +126,20 @@ module _ (m : Protocol) where
   own-behind [] js h k = k
   own-behind (i ∷ is) js h k = (h.0, own-behind is js h.1 k)
 
-  own-of : (a : Step) (all : List (List Term)) → EachThemselves all → HaveOwn (map (λ (ks : List Term). record { step = a; own = ks }) all)
+  own-of : (a : Step) (all : List (List Term)) → EachThemselves all → HaveOwn (map (with_own a) all)
   own-of a [] h = tt
   own-of a (ks ∷ all) h = (h.0, own-of a all h.1)
 
-  steps-own : AreFree (enumerators_in m.sorts) → (steps : List Step) → HaveOwn (flat_map (instances_of d) steps)
+  step-own : AreFree (enumerators_in m.sorts) → (a : Step) → HaveOwn (instances_of m a)
+  step-own h a = by (is_whole m a)
+    where
+      by : (b : Bool) → HaveOwn (if b then whole_step a ∷ [] else map (with_own a) (written_tuples d a.variables))
+      by true = (tt, tt)
+      by false = own-of a (written_tuples d a.variables) (tuples-themselves h a.variables)
+
+  steps-own : AreFree (enumerators_in m.sorts) → (steps : List Step) → HaveOwn (flat_map (instances_of m) steps)
   steps-own h [] = tt
-  steps-own h (a ∷ steps) =
-      own-behind (instances_of d a) (flat_map (instances_of d) steps) (own-of a (written_tuples d a.variables) (tuples-themselves h a.variables)) (steps-own h steps)
+  steps-own h (a ∷ steps) = own-behind (instances_of m a) (flat_map (instances_of m) steps) (step-own h a) (steps-own h steps)
 
   own-found : (is : List Instance) → HaveOwn is → (i : Instance) → Contains is i → AreThemselves i.own
   own-found [] h i among = absurd (omega (arith, among.1))

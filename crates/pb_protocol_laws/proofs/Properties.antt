@@ -1,5 +1,7 @@
 -- Properties that are the same, one by one.
 use Rattle.std.proofs.Common.{◌≡◌, ◌∙◌, List, [], ◌∷◌, map, refl, sym, ap}
+use Rattle.std.specs.Prelude.{Contains}
+use Rattle.pb_model_runs.proofs.Elements.{first_of, later_of}
 use Rattle.pb_model_meaning.specs.Syntax as model
 use Rattle.pb_model_meaning.specs.Satisfaction as model_satisfaction
 use Rattle.pb_model_meaning.specs.Erase as model_text
@@ -22,14 +24,15 @@ plain_made g p = record { name = p.name; formula = g p.formula }
 
 -- where each formula that is made is satisfied where the protocol's is
 pub are_same : (protocol : ProtocolForm) (m : ModelForm) (g : Formula → model.Formula)
-    → ((f : Formula) → model_satisfaction.satisfies (model_text.erase m) (g f) ≡ satisfies (erase protocol) f)
-    → (ps : List PropertyForm) (qs : List model_form.PropertyForm) → model_property_names qs ≡ property_names ps
+    → (ps : List PropertyForm)
+    → ((p : PropertyForm) → Contains ps p → model_satisfaction.satisfies (model_text.erase m) (g (erased_formula p.formula)) ≡ satisfies (erase protocol) (erased_formula p.formula))
+    → (qs : List model_form.PropertyForm) → model_property_names qs ≡ property_names ps
     → map model_text.erased_property qs ≡ map (made_property g) (map erased_property ps)
     → AreSameProperties protocol m ps qs
-are_same protocol m g same [] [] named made = tt
-are_same protocol m g same [] (q ∷ qs) named made = absurd (cc named)
-are_same protocol m g same (p ∷ ps) [] named made = absurd (cc named)
-are_same protocol m g same (p ∷ ps) (q ∷ qs) named made =
+are_same protocol m g [] same [] named made = tt
+are_same protocol m g [] same (q ∷ qs) named made = absurd (cc named)
+are_same protocol m g (p ∷ ps) same [] named made = absurd (cc named)
+are_same protocol m g (p ∷ ps) same (q ∷ qs) named made =
     let name : q.name ≡ p.name = cc named in
     let others : model_property_names qs ≡ property_names ps = cc named in
     let here : model_text.erased_property q ≡ made_property g (erased_property p) = cc made in
@@ -37,9 +40,9 @@ are_same protocol m g same (p ∷ ps) (q ∷ qs) named made =
     let formula : model_text.erased_formula q.formula ≡ g (erased_formula p.formula) = ap (λ (x : model.Property). x.formula) here in (
       record {
         name = name;
-        satisfied = ap (model_satisfaction.satisfies (model_text.erase m)) formula ∙ same (erased_formula p.formula);
+        satisfied = ap (model_satisfaction.satisfies (model_text.erase m)) formula ∙ same p (first_of p ps);
       },
-      are_same protocol m g same ps qs others rest,
+      are_same protocol m g ps (λ r among. same r (later_of p ps r among)) qs others rest,
     )
 
 -- where the protocol's formulas are those of the model, made others, and nothing counts in them

@@ -21,7 +21,7 @@ use Rattle.pb_model_spelling.specs.Protocols.{DataWritable, AllDataWritable, Som
 use Rattle.pb_protocol_unfolding.specs.Written.{written_values, written_tuples, same_negative, same_written, is_written, spelled, element}
 use Rattle.pb_protocol_folding.proofs.FoldedModels.{same-names}
 use Rattle.pb_protocol_unfolding.specs.PutIn.{TermScope, term_of, standing, Forms, no_forms, joined, copies, enumerator_term, named_term, given_arguments, applied_term, put_in, all_put_in, count_put_in, count_of_put_in, one_if, added, counted, choice, choices, chosen, are_as_many, read, reads, with_definition, with_definitions}
-use Rattle.pb_protocol_unfolding.specs.Unfolding.{Element, name_of, variable_of, elements_of, all_elements, forms_of, unfolded_term, terms_of, written, is_index, Copy, copies_of, all_copies, after_copies, forms_at_start, unfolded_assignment, Instance, instances_of, instances, unfolded_step, joined_formulas, unfolded_formula, unfolded_initial, unfolded}
+use Rattle.pb_protocol_unfolding.specs.Unfolding.{Element, name_of, variable_of, elements_of, all_elements, forms_of, unfolded_term, terms_of, written, is_index, Copy, copies_of, all_copies, after_copies, forms_at_start, unfolded_assignment, Instance, instances_of, instances, is_whole, own_left, own_scope, own_terms, whole_step, with_own, unfolded_step, joined_formulas, unfolded_formula, unfolded_initial, unfolded}
 use Rattle.pb_protocol_laws.proofs.Words.{spelled_word}
 use Rattle.pb_protocol_laws.proofs.Spelled.{IsSpelled, SortsWritable, values-spelled, element-word, element_of-word}
 
@@ -81,6 +81,20 @@ spelled-writable (k ∷ ks) h = (h.0.0, spelled-writable ks h.1)
 
 written-writable : (xs : List Variable) (ks : List Term) → Each IsSpelled ks → ScopeWritable (written xs ks)
 written-writable xs ks h = standing-writable xs (terms_of ks) [] (terms-writable ks (spelled-writable ks h)) tt
+
+-- the own variables of a step are words
+themselves-writable : (xs : List Variable) → Each VariableWritable xs → Each TermWritable (own_terms true xs [])
+themselves-writable [] h = tt
+themselves-writable (x ∷ xs) h = (h.0.0, themselves-writable xs h.1)
+
+-- and so is what they stand for
+own-writable : (b : Bool) (xs : List Variable) (ks : List Term) → Each VariableWritable xs → Each IsSpelled ks → ScopeWritable (written xs (own_terms b xs ks))
+own-writable true xs ks h s = standing-writable xs (terms_of (own_terms true xs [])) [] (terms-writable (own_terms true xs []) (themselves-writable xs h)) tt
+own-writable false xs ks h s = written-writable xs ks s
+
+left-writable : (b : Bool) (xs : List Variable) → Each VariableWritable xs → Each VariableWritable (own_left b xs)
+left-writable true xs h = h
+left-writable false xs h = tt
 
 -- ---- terms
 
@@ -311,20 +325,25 @@ module _ (m : Protocol) (h : ProtocolWritable m) where
 
   step-writable : (i : Instance) → InstanceWritable i → model.StepWritable (unfolded_step m i)
   step-writable i w =
-      let ρ = written i.step.variables i.own in
-      let k = written-writable i.step.variables i.own w.1 in (
-        tt,
+      let ρ = own_scope i in
+      let k = own-writable i.whole i.step.variables i.own w.0.1 w.1 in (
+        left-writable i.whole i.step.variables w.0.1,
         term-writable i.step.guard ρ k w.0.2,
         mapped ElementWritable model.AssignmentWritable (unfolded_assignment m ρ i.step.assignments) (all_elements m)
             (λ e v. after-writable (all_copies (data_of m) ρ i.step.assignments) (copies-writable ρ k i.step.assignments w.0.3) e v (Term.Named (name_of e)) (element-named e v)) elements-writable,
       )
 
+  instances-writable : (a : Step) → StepWritable a → Each InstanceWritable (instances_of m a)
+  instances-writable a w = by (is_whole m a)
+    where
+      by : (b : Bool) → Each InstanceWritable (if b then whole_step a ∷ [] else map (with_own a) (written_tuples (data_of m) a.variables))
+      by true = ((w, tt), tt)
+      by false = mapped (Each IsSpelled) InstanceWritable (with_own a) (written_tuples (data_of m) a.variables) (λ ks s. (w, s)) (tuples-spelled (data_of m) sorts a.variables)
+
   pub steps-unfolded : Each model.StepWritable (unfolded m).steps
   steps-unfolded =
       mapped InstanceWritable model.StepWritable (unfolded_step m) (instances m) step-writable
-      (flat-mapped StepWritable InstanceWritable (instances_of (data_of m)) m.steps
-      (λ a w. mapped (Each IsSpelled) InstanceWritable (λ (ks : List Term). record { step = a; own = ks }) (written_tuples (data_of m) a.variables)
-      (λ ks s. (w, s)) (tuples-spelled (data_of m) sorts a.variables)) h.steps)
+      (flat-mapped StepWritable InstanceWritable (instances_of m) m.steps instances-writable h.steps)
 
   nothing-known : FormsWritable no_forms
   nothing-known x ts w k = tt

@@ -1,7 +1,7 @@
 -- By which of its steps a protocol goes where the model goes that is solved in its place: by that
 -- of the name, and the values, that are told.
-use Rattle.std.specs.Prelude.{◌≡◌, Bool, true, false, [], map, filter, Some, Contains}
-use Rattle.pb_text_meaning.specs.Syntax.{Name}
+use Rattle.std.specs.Prelude.{◌≡◌, Bool, true, false, List, [], map, filter, Some, Contains}
+use Rattle.pb_text_meaning.specs.Syntax.{Name, Term}
 use Rattle.pb_model_meaning.specs.Syntax as model
 use Rattle.pb_model_meaning.specs.Steps.{State}
 use Rattle.pb_model_meaning.specs.Steps as model_steps
@@ -19,12 +19,20 @@ use Rattle.pb_protocol_laws.specs.Solved.{itself, StandsFor}
 
 -- ---- the protocol's steps for the name of a model's step
 
--- an instance has the name, and the set is that of its step, by its values
+-- the set of an instance's step: as a whole, or by its values
+abbrev pub set_where : (whole : Bool) → Name → List Term → StepSet
+set_where true x own = StepSet.Only x
+set_where false x own = StepSet.With x (map Some own)
+
+abbrev pub instance_set : Instance → StepSet
+instance_set i = set_where i.whole i.step.name i.own
+
+-- an instance has the name, and the set is that of its step
 pub record IsInstanceStep (protocol : Protocol) (x : Name) (A : StepSet) : Type 0 where
   pub at : Instance
   pub among : Contains (instances protocol) at
   pub named : instance_name at ≡ x
-  pub set : A ≡ StepSet.With at.step.name (map Some at.own)
+  pub set : A ≡ instance_set at
 
 -- of a plain protocol's own model the step of that name, of the unfolded one that of an instance
 abbrev pub IsStepFor : (is_plain : Bool) → Protocol → Name → StepSet → Type 0
@@ -69,7 +77,7 @@ FlatStepsAreInstances =
     (λ (i : Instance). is_possible (folded_step (data_of protocol) (unfolded_step protocol i)))
     (instances protocol))
 
--- so for the name of each of its steps there is a step of the protocol with its values
+-- so for the name of each of its steps there is a step of the protocol, with its values or whole
 abbrev pub EachFlatStepIsAnInstance : Type 0
 EachFlatStepIsAnInstance =
     (protocol : Protocol) (a : model.Step) → Contains (flat_model protocol).steps a →

@@ -11,18 +11,17 @@ ghost use Rattle.pb_protocol_laws.specs.NamedSteps.{PackedModelsGoByNames, Plain
 ghost use Rattle.pb_protocol_laws.specs.NamedSteps.{UnfoldedModelsGoByNames};
 
 use pb_protocol_packing::packed_models_have_the_answer;
-use pb_protocol_unfolding::{plain_models_keep_their_meaning, steps_are_unfolded};
+use pb_protocol_unfolding::plain_models_keep_their_meaning;
 
 /// Where a plain protocol's own model goes by a step, the protocol goes by the step of that name;
-/// where the unfolded one does, by the step and the values of the instance that has the name; and
-/// so it is where the variables of either are packed.
+/// where the unfolded one does, by the step and the values of the instance that has the name, or by
+/// the step that stays whole; and so it is where the variables of either are packed.
 pub fn models_go_by_names()
     ensures plain { PlainModelsGoByNames }
     ensures unfolded { UnfoldedModelsGoByNames }
     ensures packed { PackedModelsGoByNames }
 {
     plain_models_keep_their_meaning();
-    steps_are_unfolded();
     packed_models_have_the_answer();
 }
 

@@ -1,5 +1,5 @@
 -- What the negation of a formula is unfolded to is the dual of what the formula is unfolded to.
-use Rattle.std.proofs.Common.{true, false, List, [], ◌∷◌, ◌++◌, flat_map, inl, inr, refl}
+use Rattle.std.proofs.Common.{◌≡◌, ◌∙◌, ap, subst, true, false, List, [], ◌∷◌, ◌++◌, flat_map, inl, inr, refl}
 use Rattle.pb_text_tree.specs.declared.operator.Quantifier.{Quantifier}
 use Rattle.pb_text_tree.specs.declared.operator.Quantifier.TheVariants.{Forall, Exists}
 use Rattle.pb_text_meaning.specs.Syntax.{Name, Variable, Term, Spec}
@@ -10,11 +10,32 @@ use Rattle.pb_protocol_meaning.specs.Syntax.{Formula, Protocol}
 use Rattle.pb_protocol_meaning.specs.Steps.{data_of}
 use Rattle.pb_protocol_unfolding.specs.Written.{written_values}
 use Rattle.pb_protocol_unfolding.specs.PutIn.{TermScope, copies}
+use Rattle.pb_protocol_unfolding.specs.Whole.{valued_in, valued_in_set}
 use Rattle.pb_protocol_unfolding.specs.Unfolding.{joined_formulas, unfolded_formula}
+use Rattle.pb_protocol_unfolding.specs.ModelLaws.{NamesNoWhole}
 use Rattle.pb_protocol_negation.specs.Dual.{dual_quantifier, dual_sign}
 use Rattle.pb_protocol_negation.specs.Negation.{negation}
 use Rattle.pb_protocol_negation.specs.Verdict.{IsClosed}
 use Rattle.pb_protocol_range_laws.proofs.Plain.{other-sign}
+
+-- ---- sets of steps
+
+-- a negation names the same steps by values
+valued-negated : (f : Formula) → valued_in f ≡ valued_in (negation f)
+valued-negated (Formula.Truth b) = refl
+valued-negated (Formula.Data x) = refl
+valued-negated (Formula.Named X) = refl
+valued-negated (Formula.Not f) = valued-negated f
+valued-negated (Formula.And f g) = ap (λ xs. xs ++ valued_in g) (valued-negated f) ∙ ap (λ xs. valued_in (negation f) ++ xs) (valued-negated g)
+valued-negated (Formula.Or f g) = ap (λ xs. xs ++ valued_in g) (valued-negated f) ∙ ap (λ xs. valued_in (negation f) ++ xs) (valued-negated g)
+valued-negated (Formula.Implies f g) = ap (λ xs. xs ++ valued_in g) (valued-negated f) ∙ ap (λ xs. valued_in (negation f) ++ xs) (valued-negated g)
+valued-negated (Formula.Box A f) = ap (λ xs. valued_in_set A ++ xs) (valued-negated f)
+valued-negated (Formula.Diamond A f) = ap (λ xs. valued_in_set A ++ xs) (valued-negated f)
+valued-negated (Formula.Fixpoint sign X f) = valued-negated f
+valued-negated (Formula.Quantified q xs f) = valued-negated f
+
+pub negation-names : (m : Protocol) (f : Formula) → NamesNoWhole m (valued_in f) → NamesNoWhole m (valued_in (negation f))
+negation-names m f = subst (NamesNoWhole m) (valued-negated f)
 
 -- ---- copies
 

@@ -26,7 +26,7 @@ use Rattle.pb_protocol_negation.specs.Verdict.{fails, holds, IsClosed}
 use Rattle.pb_protocol_laws.specs.WiderProtocols.{in_ranges, FailsInAllWiderRanges, HoldsInWiderRanges}
 use Rattle.pb_protocol_range_laws.specs.Texts.{IsFlat, IsOwn, IsPackedText, IsTextIn, IsUnfolded}
 use Rattle.pb_protocol_range_laws.specs.Laws.{NoCutMeansOne, VerdictsAreFinalWithoutCuts}
-use Rattle.pb_protocol_range_laws.proofs.Unfolded.{unfolded-closed, unfolded-dual}
+use Rattle.pb_protocol_range_laws.proofs.Unfolded.{negation-names, unfolded-closed, unfolded-dual}
 use Rattle.pb_protocol_range_laws.proofs.Folded.{fold-closed, fold-dual, is-negation}
 use Rattle.pb_protocol_range_laws.proofs.Packed.{apart-dual, said-closed, said-dual}
 use Rattle.pb_protocol_range_laws.proofs.Plain.{dual, dual-counts, is-dual, plain-closed, plain-dual}
@@ -80,9 +80,9 @@ module _ (decide : NegationsDecideWithoutCuts) (plain_same : PlainModelsKeepThei
       let o : IsNegation F G = is-negation F G (fold-dual spec left u v (unfolded-dual m f [])) in
       let closed-f : flat_negation.IsBound [] F = fold-closed spec left u [] (unfolded-closed m f [] [] closed) in
       let here : IsTextIn (flat_model m) F text = subst (λ x. IsTextIn x F text) at.model (subst (λ x. IsTextIn n x text) at.formula in_text) in
-      sym (flat_same m at.hides_nothing (negation f))
+      sym (flat_same m at.hides_nothing (negation f) (negation-names m f at.names))
       ∙ one-of-model (flat_model m) F G text (flat_apart m at.hides_nothing) o closed-f here none
-      ∙ ap not (flat_same m at.hides_nothing f)
+      ∙ ap not (flat_same m at.hides_nothing f at.names)
 
   one : (m : Protocol) (f : Formula) (n : flat.Model) (g : flat.Formula) (text : Spec) → IsClosed [] f → IsFlat m f n g → IsTextIn n g text → StaysInRanges text →
       fails m f ≡ not (holds m f)

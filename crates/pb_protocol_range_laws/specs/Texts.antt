@@ -6,7 +6,8 @@ use Rattle.pb_model_translation.specs.Names.{translation}
 use Rattle.pb_model_translation.specs.Apart.{HasNamesApart}
 use Rattle.pb_protocol_meaning.specs.Syntax.{Formula, Protocol}
 use Rattle.pb_protocol_unfolding.specs.Hygiene.{HidesNothing}
-use Rattle.pb_protocol_unfolding.specs.ModelLaws.{flat_formula, flat_model}
+use Rattle.pb_protocol_unfolding.specs.Whole.{valued_in}
+use Rattle.pb_protocol_unfolding.specs.ModelLaws.{NamesNoWhole, flat_formula, flat_model}
 use Rattle.pb_protocol_unfolding.specs.Plain.{plain, plain_formula, FormulaCountsNothing, IsPlain}
 use Rattle.pb_protocol_packing.specs.Groups.{packed, said_formula}
 use Rattle.pb_protocol_packing.specs.Packable.{IsPackable}
@@ -19,10 +20,11 @@ pub record IsOwn (m : Protocol) (f : Formula) (n : flat.Model) (g : flat.Formula
   pub formula : f ≡ plain_formula g
   pub counts_nothing : FormulaCountsNothing g
 
--- else it is unfolded
+-- else it is unfolded, and names no step by values that stays whole, as no property does
 pub record IsUnfolded (m : Protocol) (f : Formula) (n : flat.Model) (g : flat.Formula)
     : Type 0 where
   pub hides_nothing : HidesNothing m
+  pub names : NamesNoWhole m (valued_in f)
   pub model : n ≡ flat_model m
   pub formula : g ≡ flat_formula m f
 

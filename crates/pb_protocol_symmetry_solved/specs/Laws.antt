@@ -11,7 +11,8 @@ use Rattle.pb_fixpoint_symmetry.specs.Symmetry.{IsSymmetry}
 use Rattle.pb_model_symmetry.specs.Symmetry.{IsModelSymmetry, is_at_state, carried}
 use Rattle.pb_protocol_meaning.specs.Syntax.{Formula, Property, Protocol}
 use Rattle.pb_protocol_unfolding.specs.Hygiene.{HidesNothing}
-use Rattle.pb_protocol_unfolding.specs.ModelLaws.{flat_model, flat_formula}
+use Rattle.pb_protocol_unfolding.specs.Whole.{valued_in}
+use Rattle.pb_protocol_unfolding.specs.ModelLaws.{NamesNoWhole, flat_model, flat_formula}
 use Rattle.pb_protocol_packing.specs.Groups.{groups_of, packed, said_formula}
 use Rattle.pb_protocol_packing.specs.Packable.{IsPackable}
 use Rattle.pb_protocol_packing.specs.Unpacked.{unpacked}
@@ -23,13 +24,15 @@ use Rattle.pb_protocol_symmetry_unfolded.specs.Laws.{IsQuantifiedAlone, permuted
 use Rattle.pb_protocol_symmetry_packed.specs.States.{packed_state}
 use Rattle.pb_protocol_symmetry_packed.specs.Laws.{through}
 
--- the flat model has the symmetries of the protocol
+-- the flat model has the symmetries of the protocol, at each formula that names no step by values
+-- that stays whole, so at each property of the protocol
 abbrev pub FlatModelsAreSymmetric : Type 0
 FlatModelsAreSymmetric =
     (m : Protocol) → HidesNothing m →
     (sort : Name) (M : Carrier) (signatures : Signatures) → IsSymmetric m sort M signatures →
     (p back : Value → Value) → IsPermutation M p back →
-    (f : Formula) → FormulaHasKinds m sort M signatures [] f → IsQuantifiedAlone m f →
+    (f : Formula) → NamesNoWhole m (valued_in f) →
+    FormulaHasKinds m sort M signatures [] f → IsQuantifiedAlone m f →
     IsModelSymmetry (flat_model m) (flat_formula m f) (permuted_states m sort p back)
 
 -- and so have the equations to which it is translated, by whatever names
@@ -38,7 +41,8 @@ FlatEquationsAreSymmetric =
     (m : Protocol) → HidesNothing m →
     (sort : Name) (M : Carrier) (signatures : Signatures) → IsSymmetric m sort M signatures →
     (p back : Value → Value) → IsPermutation M p back →
-    (f : Formula) → FormulaHasKinds m sort M signatures [] f → IsQuantifiedAlone m f →
+    (f : Formula) → NamesNoWhole m (valued_in f) →
+    FormulaHasKinds m sort M signatures [] f → IsQuantifiedAlone m f →
     (names : ℕ → Name) →
     IsSymmetry (is_at_state (flat_model m))
     (equations_of (translation_by (flat_model m) names (flat_formula m f)))
@@ -68,7 +72,8 @@ PackedEquationsAreSymmetric =
 abbrev pub TestedEquationsAreSymmetric : Type 0
 TestedEquationsAreSymmetric =
     (m : Protocol) → HidesNothing m → (sort : Name) (M : Carrier) → is_symmetric m sort M ≡ true →
-    (p back : Value → Value) → IsPermutation M p back → (f : Formula) →
+    (p back : Value → Value) → IsPermutation M p back →
+    (f : Formula) → NamesNoWhole m (valued_in f) →
     formula_has_kinds m sort M (signatures_in m sort M) [] f ≡ true → IsQuantifiedAlone m f →
     (names : ℕ → Name) →
     IsSymmetry (is_at_state (flat_model m))

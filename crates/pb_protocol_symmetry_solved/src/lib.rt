@@ -13,7 +13,7 @@ use pb_protocol_symmetry::{tested_formulas_have_kinds, tested_protocols_are_symm
 use pb_protocol_symmetry_folded::folded_models_are_symmetric;
 use pb_protocol_symmetry_packed::packed_models_are_symmetric;
 use pb_protocol_symmetry_unfolded::unfolded_models_are_symmetric;
-use pb_protocol_unfolding::flat_models_do_the_same;
+use pb_protocol_unfolding::{flat_models_do_the_same, properties_name_no_whole};
 
 /// Each permutation of a sort's elements is a symmetry of the flat model of a symmetric protocol,
 /// and of the equations to which it is translated, and of those of the packed model. A protocol and
@@ -28,6 +28,7 @@ pub fn solved_equations_are_symmetric()
     folded_models_are_symmetric();
     packed_models_are_symmetric();
     flat_models_do_the_same();
+    properties_name_no_whole();
     packed_models_have_the_answer();
     translations_are_symmetric();
     tested_formulas_have_kinds();

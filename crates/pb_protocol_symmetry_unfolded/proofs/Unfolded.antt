@@ -20,7 +20,9 @@ use Rattle.pb_protocol_meaning.specs.Steps.{data_of, is_state, successors}
 use Rattle.pb_protocol_meaning.specs.Satisfaction.{satisfying}
 use Rattle.pb_protocol_unfolding.specs.Unfolding.{unfolded, unfolded_set, unfolded_formula}
 use Rattle.pb_protocol_unfolding.specs.Hygiene.{HidesNothing}
-use Rattle.pb_protocol_unfolding.specs.ModelLaws.{StepsAreUnfolded, FormulasAreUnfolded, ModelsAreUnfolded}
+use Rattle.pb_protocol_unfolding.specs.Whole.{valued_in, valued_in_set}
+use Rattle.pb_protocol_unfolding.specs.ModelLaws.{NamesNoWhole, StepsAreUnfolded, FormulasAreUnfolded, ModelsAreUnfolded}
+use Rattle.pb_protocol_unfolding.proofs.Formulas.{front-names, behind-names}
 use Rattle.pb_protocol_symmetry.specs.Permutation.{IsPermutation}
 use Rattle.pb_protocol_symmetry.specs.Kinds.{Signatures}
 use Rattle.pb_protocol_symmetry.specs.States.{permuted}
@@ -70,13 +72,13 @@ module _ (steps-unfolded : StepsAreUnfolded) (formulas-unfolded : FormulasAreUnf
   seen-here : (S : States) (b : Bool) (r : State) → flat_symmetry.seen U S b r ≡ seen m S b r
   seen-here S b r = ap (λ d. if d then S r else b) (same-states r)
 
-  steps-kept : (A : StepSet) → SetHasKindsAt (data_of m) sort M signatures.at_start [] A m.steps → KeepsSteps U f (unfolded_set m [] A)
-  steps-kept A h s e S b =
+  steps-kept : (A : StepSet) → NamesNoWhole m (valued_in_set A) → SetHasKindsAt (data_of m) sort M signatures.at_start [] A m.steps → KeepsSteps U f (unfolded_set m [] A)
+  steps-kept A names h s e S b =
       let e' : is_state m s ≡ true = sym (same-states s) ∙ e in
       let r = successors-permuted m sort M signatures known p back permutes [] [] [] tt A h s e' S b in
       let there : flat_steps.successors U (unfolded_set m [] A) (f s) ≡ successors m [] A (turn s) =
-      ap (flat_steps.successors U (unfolded_set m [] A)) (at-states s e') ∙ steps-unfolded m hides A (turn s) in
-      let here : flat_steps.successors U (unfolded_set m [] A) s ≡ successors m [] A s = steps-unfolded m hides A s in (
+      ap (flat_steps.successors U (unfolded_set m [] A)) (at-states s e') ∙ steps-unfolded m hides A names (turn s) in
+      let here : flat_steps.successors U (unfolded_set m [] A) s ≡ successors m [] A s = steps-unfolded m hides A names s in (
         ap (list_all (flat_symmetry.seen U S b)) there ∙ (all-same U _ _ (seen-here S b) (successors m [] A (turn s)) ∙ (r.0 ∙
             (all-same U _ _ (seen-there S b) (successors m [] A s) ∙ (sym (of_list-map Forall (flat_symmetry.seen U S b) f (successors m [] A s)) ∙
             ap (λ (l : List State). list_all (flat_symmetry.seen U S b) (map f l)) (sym here))))),
@@ -85,39 +87,45 @@ module _ (steps-unfolded : StepsAreUnfolded) (formulas-unfolded : FormulasAreUnf
             ap (λ (l : List State). list_any (flat_symmetry.seen U S b) (map f l)) (sym here))))),
       )
 
-  whole-kept : (g : Formula) → FormulaHasKinds m sort M signatures [] g → equation_count (unfolded_formula m [] g) ≡ 0 → IsKeptWhole U f (unfolded_formula m [] g)
-  whole-kept g h alone = record {
+  whole-kept : (g : Formula) → NamesNoWhole m (valued_in g) → FormulaHasKinds m sort M signatures [] g → equation_count (unfolded_formula m [] g) ≡ 0 → IsKeptWhole U f (unfolded_formula m [] g)
+  whole-kept g names h alone = record {
     alone = alone;
     same = λ V W VW s e.
         let e' : is_state m s ≡ true = sym (same-states s) ∙ e in
-        formulas-unfolded m hides W g (f s) ∙
+        formulas-unfolded m hides W g names (f s) ∙
         (ap (satisfying m W [] g) (at-states s e') ∙
         (satisfaction-permuted m sort M signatures known p back permutes g [] h V W
         (λ X r k. ap (W X) (sym (at-states r k)) ∙ VW X r (same-states r ∙ k)) [] [] tt s e' ∙
-        sym (formulas-unfolded m hides V g s)));
+        sym (formulas-unfolded m hides V g names s)));
   }
 
-  kept : (g : Formula) → FormulaHasKinds m sort M signatures [] g → IsQuantifiedAlone m g → KeepsFormula U f (unfolded_formula m [] g)
-  kept (Formula.Truth b) h alone = OfWhole _ (whole-kept (Formula.Truth b) h refl)
-  kept (Formula.Data x) h alone = OfWhole _ (whole-kept (Formula.Data x) h refl)
-  kept (Formula.Named X) h alone = OfWhole _ (whole-kept (Formula.Named X) h refl)
-  kept (Formula.Not g) h alone = OfNot _ (kept g h alone)
-  kept (Formula.And g i) h alone = OfAnd _ _ (kept g h.0 alone.0) (kept i h.1 alone.1)
-  kept (Formula.Or g i) h alone = OfOr _ _ (kept g h.0 alone.0) (kept i h.1 alone.1)
-  kept (Formula.Implies g i) h alone = OfImplies _ _ (kept g h.0 alone.0) (kept i h.1 alone.1)
-  kept (Formula.Box A g) h alone = OfBox _ _ (steps-kept A h.0) (kept g h.1 alone)
-  kept (Formula.Diamond A g) h alone = OfDiamond _ _ (steps-kept A h.0) (kept g h.1 alone)
-  kept (Formula.Fixpoint sign X g) h alone = OfFixpoint sign X _ (kept g h alone)
-  kept (Formula.Quantified q xs g) h alone = OfWhole _ (whole-kept (Formula.Quantified q xs g) h alone)
+  kept : (g : Formula) → NamesNoWhole m (valued_in g) → FormulaHasKinds m sort M signatures [] g → IsQuantifiedAlone m g → KeepsFormula U f (unfolded_formula m [] g)
+  kept (Formula.Truth b) names h alone = OfWhole _ (whole-kept (Formula.Truth b) names h refl)
+  kept (Formula.Data x) names h alone = OfWhole _ (whole-kept (Formula.Data x) names h refl)
+  kept (Formula.Named X) names h alone = OfWhole _ (whole-kept (Formula.Named X) names h refl)
+  kept (Formula.Not g) names h alone = OfNot _ (kept g names h alone)
+  kept (Formula.And g i) names h alone =
+      OfAnd _ _ (kept g (front-names m (valued_in g) (valued_in i) names) h.0 alone.0) (kept i (behind-names m (valued_in g) (valued_in i) names) h.1 alone.1)
+  kept (Formula.Or g i) names h alone =
+      OfOr _ _ (kept g (front-names m (valued_in g) (valued_in i) names) h.0 alone.0) (kept i (behind-names m (valued_in g) (valued_in i) names) h.1 alone.1)
+  kept (Formula.Implies g i) names h alone =
+      OfImplies _ _ (kept g (front-names m (valued_in g) (valued_in i) names) h.0 alone.0) (kept i (behind-names m (valued_in g) (valued_in i) names) h.1 alone.1)
+  kept (Formula.Box A g) names h alone =
+      OfBox _ _ (steps-kept A (front-names m (valued_in_set A) (valued_in g) names) h.0) (kept g (behind-names m (valued_in_set A) (valued_in g) names) h.1 alone)
+  kept (Formula.Diamond A g) names h alone =
+      OfDiamond _ _ (steps-kept A (front-names m (valued_in_set A) (valued_in g) names) h.0) (kept g (behind-names m (valued_in_set A) (valued_in g) names) h.1 alone)
+  kept (Formula.Fixpoint sign X g) names h alone = OfFixpoint sign X _ (kept g names h alone)
+  kept (Formula.Quantified q xs g) names h alone = OfWhole _ (whole-kept (Formula.Quantified q xs g) names h alone)
 
-  pub model-symmetric : (g : Formula) → FormulaHasKinds m sort M signatures [] g → IsQuantifiedAlone m g → IsModelSymmetry U (unfolded_formula m [] g) f
-  model-symmetric g h alone = record { states = states; formula = kept g h alone }
+  pub model-symmetric : (g : Formula) → NamesNoWhole m (valued_in g) → FormulaHasKinds m sort M signatures [] g → IsQuantifiedAlone m g →
+      IsModelSymmetry U (unfolded_formula m [] g) f
+  model-symmetric g names h alone = record { states = states; formula = kept g names h alone }
 
 pub symmetric : StepsAreUnfolded → FormulasAreUnfolded → ModelsAreUnfolded → PermutedStatesAreStates → SuccessorsArePermuted → SatisfactionIsPermuted → UnfoldedModelsAreSymmetric
-symmetric su fu mu sk sp sat m hides sort M signatures known p back permutes f h alone =
-    model-symmetric su fu mu sk sp sat m hides sort M signatures known p back permutes f h alone
+symmetric su fu mu sk sp sat m hides sort M signatures known p back permutes f none-whole h alone =
+    model-symmetric su fu mu sk sp sat m hides sort M signatures known p back permutes f none-whole h alone
 
 pub equations-symmetric : UnfoldedModelsAreSymmetric → TranslationsAreSymmetric → UnfoldedEquationsAreSymmetric
-equations-symmetric models translations m hides sort M signatures known p back permutes f h alone names apart =
+equations-symmetric models translations m hides sort M signatures known p back permutes f none-whole h alone names apart =
     translations (unfolded m) names (unfolded_formula m [] f) (permuted_states m sort p back) apart
-    (models m hides sort M signatures known p back permutes f h alone)
+    (models m hides sort M signatures known p back permutes f none-whole h alone)

@@ -15,6 +15,8 @@ use Rattle.pb_protocol_meaning.specs.Syntax.{Formula, Protocol}
 use Rattle.pb_protocol_meaning.specs.Steps.{data_of, is_state}
 use Rattle.pb_protocol_unfolding.specs.Unfolding.{unfolded, unfolded_formula}
 use Rattle.pb_protocol_unfolding.specs.Hygiene.{HidesNothing}
+use Rattle.pb_protocol_unfolding.specs.Whole.{valued_in}
+use Rattle.pb_protocol_unfolding.specs.ModelLaws.{NamesNoWhole}
 use Rattle.pb_protocol_symmetry.specs.Permutation.{IsPermutation}
 use Rattle.pb_protocol_symmetry.specs.Kinds.{Signatures}
 use Rattle.pb_protocol_symmetry.specs.States.{permuted}
@@ -40,13 +42,15 @@ abbrev pub permuted_states : Protocol → Name → (Value → Value) → (Value 
 permuted_states m sort p back s =
     if is_state m s then permuted (data_of m) sort p back m.variables s else s
 
--- the unfolded model has the symmetries of the protocol
+-- the unfolded model has the symmetries of the protocol, at each formula that names no step by
+-- values that stays whole, so at each property of the protocol
 abbrev pub UnfoldedModelsAreSymmetric : Type 0
 UnfoldedModelsAreSymmetric =
     (m : Protocol) → HidesNothing m →
     (sort : Name) (M : Carrier) (signatures : Signatures) → IsSymmetric m sort M signatures →
     (p back : Value → Value) → IsPermutation M p back →
-    (f : Formula) → FormulaHasKinds m sort M signatures [] f → IsQuantifiedAlone m f →
+    (f : Formula) → NamesNoWhole m (valued_in f) →
+    FormulaHasKinds m sort M signatures [] f → IsQuantifiedAlone m f →
     IsModelSymmetry (unfolded m) (unfolded_formula m [] f) (permuted_states m sort p back)
 
 -- and so have the equations to which it is translated
@@ -55,7 +59,8 @@ UnfoldedEquationsAreSymmetric =
     (m : Protocol) → HidesNothing m →
     (sort : Name) (M : Carrier) (signatures : Signatures) → IsSymmetric m sort M signatures →
     (p back : Value → Value) → IsPermutation M p back →
-    (f : Formula) → FormulaHasKinds m sort M signatures [] f → IsQuantifiedAlone m f →
+    (f : Formula) → NamesNoWhole m (valued_in f) →
+    FormulaHasKinds m sort M signatures [] f → IsQuantifiedAlone m f →
     (names : ℕ → Name) → HasNamesApart (unfolded m) →
     IsSymmetry (is_at_state (unfolded m))
     (equations_of (translation_by (unfolded m) names (unfolded_formula m [] f)))

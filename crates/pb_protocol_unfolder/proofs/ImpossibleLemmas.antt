@@ -9,7 +9,6 @@ use Rattle.pb_protocol_tree.specs.declared.step.Step as declared
 use Rattle.pb_protocol_tree.specs.Form.{step_form}
 use Rattle.pb_protocol_meaning.specs.Syntax.{Protocol, Step}
 use Rattle.pb_protocol_meaning.specs.Erase.{erased_step}
-use Rattle.pb_protocol_meaning.specs.Steps.{data_of}
 use Rattle.pb_protocol_unfolding.specs.Unfolding.{Instance, instances_of}
 use Rattle.pb_protocol_unfolder.specs.Told.{may_be_taken, is_impossible}
 
@@ -19,15 +18,15 @@ any-mapped p (x ∷ xs) = ap (λ b. p x || b) (any-mapped p xs)
 
 module _ (m : Protocol) where
   abbrev pub own_instances : declared.Step → List Instance
-  own_instances a = instances_of (data_of m) (erased_step (step_form a))
+  own_instances a = instances_of m (erased_step (step_form a))
 
-  instances-parted : (steps : List declared.Step) → flat_map own_instances steps ≡ flat_map (instances_of (data_of m)) (map erased_step (map step_form steps))
+  instances-parted : (steps : List declared.Step) → flat_map own_instances steps ≡ flat_map (instances_of m) (map erased_step (map step_form steps))
   instances-parted [] = refl
   instances-parted (a ∷ others) = ap (λ (is : List Instance). own_instances a ++ is) (instances-parted others)
 
   -- a step makes no more of them than all do
   pub no-more-than-all : (steps : List declared.Step) (k : ℕ) (a : declared.Step) → k < length steps → a ≡ get_or steps k a
-      → length (own_instances a) ≤ length (flat_map (instances_of (data_of m)) (map erased_step (map step_form steps)))
+      → length (own_instances a) ≤ length (flat_map (instances_of m) (map erased_step (map step_form steps)))
   no-more-than-all steps k a below is =
       let f = own_instances in
       let all = flat_map f steps in
@@ -36,14 +35,14 @@ module _ (m : Protocol) where
 
   -- whether the steps with values of these steps are kept
   abbrev pub kept_of : List declared.Step → List Bool
-  kept_of steps = map (may_be_taken m) (flat_map (instances_of (data_of m)) (map erased_step (map step_form steps)))
+  kept_of steps = map (may_be_taken m) (flat_map (instances_of m) (map erased_step (map step_form steps)))
 
   -- the names of those of which none is
   abbrev pub names_of : List declared.Step → List Name
   names_of steps = map (λ (a : Step). a.name) (filter (is_impossible m) (map erased_step (map step_form steps)))
 
   parted : (a : declared.Step) (others : List declared.Step) → kept_of (a ∷ others) ≡ map (may_be_taken m) (own_instances a) ++ kept_of others
-  parted a others = map-append (may_be_taken m) (own_instances a) (flat_map (instances_of (data_of m)) (map erased_step (map step_form others)))
+  parted a others = map-append (may_be_taken m) (own_instances a) (flat_map (instances_of m) (map erased_step (map step_form others)))
 
   first-of : (steps : List declared.Step) (k : ℕ) (a : declared.Step) → k < length steps → a ≡ get_or steps k a → drop k steps ≡ a ∷ drop (k + 1) steps
   first-of steps k a below is = drop_more steps k a below ∙ ap (λ (b : declared.Step). b ∷ drop (k + 1) steps) (sym is)

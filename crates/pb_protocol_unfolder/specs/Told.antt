@@ -57,7 +57,7 @@ told_step m i = map told_instance (filter (may_be_taken m) (i ∷ []))
 
 -- a step that with none of its values may be taken
 abbrev pub is_impossible : Protocol → Step → Bool
-is_impossible m a = not (list_any (may_be_taken m) (instances_of (data_of m) a))
+is_impossible m a = not (list_any (may_be_taken m) (instances_of m a))
 
 -- the names of those steps, in order
 abbrev pub impossible_steps : Protocol → List Name

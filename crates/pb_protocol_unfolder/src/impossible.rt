@@ -4,7 +4,6 @@ ghost use Rattle.std.specs.Prelude.{◌≡◌, ◌≤◌, ◌++◌, [], ◌∷�
 ghost use Rattle.std.specs.Prelude.{string_bytes};
 ghost use Rattle.std.specs.List.{list_any};
 ghost use Rattle.pb_base.specs.OrMemory.{IfRefused};
-ghost use Rattle.pb_protocol_meaning.specs.Steps.{data_of};
 ghost use Rattle.pb_protocol_unfolding.specs.Unfolding as definitions;
 ghost use Rattle.pb_protocol_unfolder_steps.specs.Elements.{instances_of_step};
 ghost use Rattle.pb_protocol_unfolder_steps.specs.Steps.{is_kept};
@@ -15,17 +14,25 @@ ghost use Rattle.pb_protocol_unfolder.specs.Told as told;
 use crate::fault::UnfoldingError;
 use crate::formula::tuples_of;
 use pb_protocol_tree::Step;
-use pb_protocol_unfolder_steps::{MAX_WRITTEN_STEPS, Unfolder};
+use pb_protocol_unfolder_steps::{MAX_WRITTEN_STEPS, Unfolder, WholeSteps};
 use pb_protocol_unfolder_terms::variables_of;
 use std::alloc::{AllocError, Global};
 
-/// How many steps with values a step makes.
-fn instance_count(unfolder: &Unfolder<'_, '_>, step: &Step) -> Result<usize, UnfoldingError>
+/// How many steps with values a step makes; one where it stays whole.
+fn instance_count(
+    unfolder: &Unfolder<'_, '_>,
+    whole: &WholeSteps<'_>,
+    step: &Step,
+) -> Result<usize, UnfoldingError>
+    requires { whole.now ≡ unfolder.now }
     ensures count { IfOk result (λ n. n
-        ≡ length (instances_of_step (data_of (protocol_in unfolder.now)) step.now)) }
+        ≡ length (instances_of_step (protocol_in unfolder.now) step.now)) }
     ensures refused { IfRefused result (OfManyTuples step.now.name.place
-        (instances_of_step (data_of (protocol_in unfolder.now)) step.now)) }
+        (instances_of_step (protocol_in unfolder.now) step.now)) }
 {
+    if whole.has(step)? {
+        return Ok(1);
+    }
     let variables = variables_of(unfolder.alloc(), &step.variables)?;
     let tuples = tuples_of(unfolder, &variables, step.name.place)?;
     Ok(tuples.len())
@@ -59,8 +66,10 @@ fn push_unless_kept(
 /// values it is said whether it is kept.
 pub(crate) fn impossible_steps(
     unfolder: &Unfolder<'_, '_>,
+    whole: &WholeSteps<'_>,
     kept: &[bool],
 ) -> Result<Vec<String>, UnfoldingError>
+    requires protocol { whole.now ≡ unfolder.now }
     requires kept { kept.now ≡ map (is_kept (protocol_in unfolder.now))
         (definitions.instances (protocol_in unfolder.now)) }
     requires few { length (definitions.instances (protocol_in unfolder.now)) ≤ MAX_WRITTEN_STEPS }
@@ -71,7 +80,7 @@ pub(crate) fn impossible_steps(
     let mut names = Vec::new(unfolder.alloc());
     let mut rest = kept;
     for step in &unfolder.protocol().steps {
-        let count = instance_count(unfolder, step)?;
+        let count = instance_count(unfolder, whole, step)?;
         let (own, others) = rest.split_at(count);
         push_unless_kept(unfolder.alloc(), &mut names, step, own)?;
         rest = others;

@@ -6,20 +6,8 @@ ghost use Rattle.pb_protocol_unfolder_steps.specs.Refusals.{instance_place};
 ghost use Rattle.pb_protocol_unfolder.specs.Unfolded.{chosen_instances, chosen_one, chosen_place};
 ghost use Rattle.pb_protocol_unfolder.specs.Unfolded.{chosen_places};
 
-use pb_protocol_unfolder_steps::Instance;
-use pb_protocol_unfolder_terms::Written;
+use pb_protocol_unfolder_steps::{Instance, copy_values};
 use std::alloc::{AllocError, Global};
-
-/// The same values.
-fn copy_values<'a>(alloc: Global, values: &[Written<'a>]) -> Result<Vec<Written<'a>>, AllocError>
-    ensures { IfOk result (λ v. v.items ≡ values.now) }
-{
-    let mut copies = Vec::new(alloc);
-    for value in values {
-        copies.push(*value)?;
-    }
-    Ok(copies)
-}
 
 /// The same step with the same values.
 fn copy_instance<'a>(alloc: Global, instance: &Instance<'a>) -> Result<Instance<'a>, AllocError>
@@ -27,8 +15,9 @@ fn copy_instance<'a>(alloc: Global, instance: &Instance<'a>) -> Result<Instance<
     ensures place { IfOk result (λ i. instance_place i ≡ instance_place instance.now) }
 {
     let step = instance.step;
+    let whole = instance.whole;
     let own = copy_values(alloc, &instance.own)?;
-    Ok(Instance { step, own })
+    Ok(Instance { step, whole, own })
 }
 
 /// Adds a step with its values, if it is kept.

@@ -15,22 +15,9 @@ ghost use Rattle.pb_protocol_unfolder.specs.Parts.{IsFaultOfInstances};
 use crate::apart::{first_repeated, first_taken};
 use crate::fault::{UnfoldingError, UnfoldingRule, refused};
 use pb_protocol_tree::Definition;
-use pb_protocol_unfolder_steps::{Element, Instance, instance_name};
-use pb_protocol_unfolder_terms::element_name;
+use pb_protocol_unfolder_steps::{Element, Instance, element_names, instance_name};
 use pb_text_tree::{Name, SortDeclaration, copy_name};
 use std::alloc::{AllocError, Global};
-
-/// The names of elements in a flat model.
-fn element_names(alloc: Global, elements: &[Element<'_>]) -> Result<Vec<Name>, AllocError>
-    ensures { IfOk result (λ v. map name_bytes v.items
-        ≡ map definitions.name_of (map flat_element elements.now)) }
-{
-    let mut names = Vec::new(alloc);
-    for element in elements {
-        names.push(element_name(alloc, element.name, &element.index)?)?;
-    }
-    Ok(names)
-}
 
 /// The names of steps with their values in a flat model.
 fn instance_names(alloc: Global, instances: &[Instance<'_>]) -> Result<Vec<Name>, AllocError>

@@ -36,8 +36,8 @@ use pb_model_tree as flat;
 use pb_model_tree::{InitialState, Model};
 use pb_protocol_tree::Protocol;
 use pb_protocol_unfolder_steps::{
-    Instance, MAX_ELEMENTS, UnfoldedSteps, Unfolder, elements, flat_state, initial_terms,
-    instances, unfold_steps,
+    Instance, MAX_ELEMENTS, UnfoldedSteps, Unfolder, WholeSteps, elements, flat_state,
+    initial_terms, instances, unfold_steps,
 };
 use pb_text_tree::{Argument, copy_declarations, copy_ranges};
 use std::alloc::Global;
@@ -112,8 +112,9 @@ fn flat_model(
     })
 }
 
-/// The flat model that a protocol is where elements, steps with their values and copies of
-/// quantified formulas are written out and folded, and how users are told of it.
+/// The flat model that a protocol is where elements, steps with their values, unless they stay
+/// whole, and copies of quantified formulas are written out and folded, and how users are told of
+/// it.
 ///
 /// # Errors
 /// A rule fails at a place (`UnfoldingRule`), or memory was refused.
@@ -140,7 +141,8 @@ pub fn unfold(alloc: Global, protocol: &Protocol) -> Result<Unfolded, UnfoldingE
     ensures refused { IfRefused result (IsUnfoldingFault (protocol_form protocol.now)) }
 {
     let elements = elements(alloc, protocol).map_err(of_steps)?;
-    let instances = instances(alloc, protocol).map_err(of_steps)?;
+    let whole = WholeSteps::among(alloc, protocol, &elements)?;
+    let instances = instances(&whole).map_err(of_steps)?;
     check_elements(alloc, &protocol.sorts, &elements)?;
     check_instances(alloc, &instances)?;
     check_definitions(alloc, &protocol.sorts, &protocol.definitions)?;
@@ -150,7 +152,7 @@ pub fn unfold(alloc: Global, protocol: &Protocol) -> Result<Unfolded, UnfoldingE
     let variables = told_elements(alloc, &elements)?;
     let origins = step_origins(alloc, &left)?;
     let model = flat_model(protocol, &unfolder, &left, steps)?;
-    let impossible = impossible_steps(&unfolder, &kept)?;
+    let impossible = impossible_steps(&unfolder, &whole, &kept)?;
     Ok(Unfolded {
         model,
         variables,

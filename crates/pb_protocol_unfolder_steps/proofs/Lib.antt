@@ -1,5 +1,7 @@
 mod GroupLemmas
 mod InitialLemmas
+pub mod InstanceLemmas
+mod WholeLemmas
 mod OkLemmas
 mod RefusalLemmas
 mod StateLemmas

@@ -15,6 +15,7 @@ use Rattle.pb_protocol_tree.specs.declared.protocol.StateVariable as declared_va
 use Rattle.pb_protocol_tree.specs.declared.protocol.StateVariables as declared_state
 use Rattle.pb_protocol_tree.specs.declared.step.Step as declared_step
 use Rattle.pb_protocol_tree.specs.Form.{StateVariableForm, protocol_form, state_variable_form, state_variables_form, step_form}
+use Rattle.pb_protocol_meaning.specs.Syntax.{Protocol}
 use Rattle.pb_protocol_meaning.specs.Erase.{protocol_of, erased_state_variable, erased_step}
 use Rattle.pb_protocol_meaning.specs.Steps.{data_of}
 use Rattle.pb_protocol_unfolding.specs.Unfolding.{elements_of, instances_of, all_elements, instances}
@@ -89,23 +90,23 @@ element-places-said spec p same = ap (λ (s : Spec). places_of_state s p.state.i
 
 -- ---- steps with their values
 
-of-steps : (spec : Spec) (steps : List declared_step.Step) → instances_of_steps spec steps ≡ flat_map (instances_of spec) (map erased_step (map step_form steps))
-of-steps spec [] = refl
-of-steps spec (a ∷ steps) = ap (λ v. instances_of_step spec a ++ v) (of-steps spec steps)
+of-steps : (m : Protocol) (steps : List declared_step.Step) → instances_of_steps m steps ≡ flat_map (instances_of m) (map erased_step (map step_form steps))
+of-steps m [] = refl
+of-steps m (a ∷ steps) = ap (λ v. instances_of_step m a ++ v) (of-steps m steps)
 
-pub instances-said : (spec : Spec) (p : declared_protocol.Protocol) → spec ≡ data_of (protocol_of p) → instances_of_steps spec p.steps.items ≡ instances (protocol_of p)
-instances-said spec p same = ap (λ (s : Spec). instances_of_steps s p.steps.items) same ∙ of-steps (data_of (protocol_of p)) p.steps.items
+pub instances-said : (p : declared_protocol.Protocol) → instances_of_steps (protocol_of p) p.steps.items ≡ instances (protocol_of p)
+instances-said p = of-steps (protocol_of p) p.steps.items
 
-places-of-all : (spec : Spec) (steps : List declared_step.Step) → places_of_steps spec steps ≡ flat_map (places_of_instances spec) (map step_form steps)
-places-of-all spec [] = refl
-places-of-all spec (a ∷ steps) = ap (λ v. places_of_step spec a ++ v) (places-of-all spec steps)
+places-of-all : (m : Protocol) (steps : List declared_step.Step) → places_of_steps m steps ≡ flat_map (places_of_instances m) (map step_form steps)
+places-of-all m [] = refl
+places-of-all m (a ∷ steps) = ap (λ v. places_of_step m a ++ v) (places-of-all m steps)
 
-forms-of-all : (spec : Spec) (steps : List declared_step.Step) → forms_of_steps spec steps ≡ flat_map (placed_instances_of spec) (map step_form steps)
-forms-of-all spec [] = refl
-forms-of-all spec (a ∷ steps) = ap (λ v. forms_of_step spec a ++ v) (forms-of-all spec steps)
+forms-of-all : (m : Protocol) (steps : List declared_step.Step) → forms_of_steps m steps ≡ flat_map (placed_instances_of m) (map step_form steps)
+forms-of-all m [] = refl
+forms-of-all m (a ∷ steps) = ap (λ v. forms_of_step m a ++ v) (forms-of-all m steps)
 
-pub instance-forms-said : (spec : Spec) (p : declared_protocol.Protocol) → spec ≡ data_of (protocol_of p) → forms_of_steps spec p.steps.items ≡ placed_instances (protocol_form p)
-instance-forms-said spec p same = ap (λ (s : Spec). forms_of_steps s p.steps.items) same ∙ forms-of-all (data_of (protocol_of p)) p.steps.items
+pub instance-forms-said : (p : declared_protocol.Protocol) → forms_of_steps (protocol_of p) p.steps.items ≡ placed_instances (protocol_form p)
+instance-forms-said p = forms-of-all (protocol_of p) p.steps.items
 
-pub instance-places-said : (spec : Spec) (p : declared_protocol.Protocol) → spec ≡ data_of (protocol_of p) → places_of_steps spec p.steps.items ≡ instance_places (protocol_form p)
-instance-places-said spec p same = ap (λ (s : Spec). places_of_steps s p.steps.items) same ∙ places-of-all (data_of (protocol_of p)) p.steps.items
+pub instance-places-said : (p : declared_protocol.Protocol) → places_of_steps (protocol_of p) p.steps.items ≡ instance_places (protocol_form p)
+instance-places-said p = places-of-all (protocol_of p) p.steps.items

@@ -2,7 +2,6 @@
 use Rattle.std.proofs.Common.{◌≡◌, ◌∙◌, refl, sym, ap, ℕ, zero, ◌+◌, ◌<◌, suc, arith, Bool, true, false, not, Option, Some, None, length, drop, get_or, drop-cons, if◌then◌else◌, List, [], ◌∷◌, ◌++◌, map, filter, flat_map}
 use Rattle.std.proofs.lemmas.List.{append_assoc, map-append}
 use Rattle.std.specs.Prelude.{is_some, string_bytes}
-use Rattle.pb_text_tree.specs.declared.variable.Variables.{Variables}
 use Rattle.pb_text_tree.specs.Form.{variable_forms}
 use Rattle.pb_text_meaning.specs.Erase.{erased_variables}
 use Rattle.pb_protocol_folding.specs.View.{term_of}
@@ -18,8 +17,8 @@ use Rattle.pb_protocol_folding.specs.FoldedModels.{folded_assignments, folded_as
 use Rattle.pb_protocol_meaning.specs.Syntax.{Assignment, Protocol}
 use Rattle.pb_protocol_meaning.specs.Steps.{data_of}
 use Rattle.pb_protocol_unfolding.specs.PutIn.{TermScope}
-use Rattle.pb_protocol_unfolding.specs.Unfolding.{Element, Instance, name_of, instance_name, all_elements, unfolded_assignment, unfolded_step, unfolded_term}
-use Rattle.pb_protocol_unfolder_steps.specs.Steps.{change_of, changed, changes, kept_step, instance_step, own_scope, step_assignment, is_kept, place_of_step, places_from, step_found, step_place, step_said}
+use Rattle.pb_protocol_unfolding.specs.Unfolding.{Element, Instance, name_of, instance_name, all_elements, own_left, own_scope, unfolded_assignment, unfolded_step, unfolded_term}
+use Rattle.pb_protocol_unfolder_steps.specs.Steps.{change_of, changed, changes, kept_step, instance_step, step_assignment, is_kept, place_of_step, places_from, step_found, step_place, step_said}
 
 -- one assignment that is folded is the change that it makes
 change-of : (spec : Spec) (a : flat.Assignment) → folded_assignments spec (a ∷ []) ≡ change_of a.variable (folded spec false a.term)
@@ -55,9 +54,9 @@ changes-folded m ρ bs (e ∷ es) =
 
 -- ---- steps
 
--- a flat step without variables
-abbrev pub made : Name → Term → List flat.Assignment → flat.Step
-made x g bs = record { name = x; variables = []; guard = g; assignments = bs }
+-- a flat step
+abbrev pub made : Name → List Variable → Term → List flat.Assignment → flat.Step
+made x vs g bs = record { name = x; variables = vs; guard = g; assignments = bs }
 
 kept : (a : flat.Step) → is_possible a ≡ true → a ∷ [] ≡ filter is_possible (a ∷ [])
 kept a possible = rw possible refl
@@ -66,12 +65,14 @@ dropped : (a : flat.Step) → is_possible a ≡ false → [] ≡ filter is_possi
 dropped a impossible = rw impossible refl
 
 -- a step with its values that may be taken, as the code makes it
-pub step-kept : (m : Protocol) (i : Instance) (x : Name) (g : Term) (bs : List flat.Assignment) → x ≡ instance_name i → g ≡ folded (data_of m) true (unfolded_term m (own_scope i) i.step.guard)
-    → bs ≡ changes m (own_scope i) i.step.assignments (all_elements m) → not (is_false g) ≡ true → made x g bs ∷ [] ≡ kept_step m i
-step-kept m i x g bs name guard assigned possible =
-    let same : made x g bs ≡ instance_step m i =
-    ap (λ (y : Name). made y g bs) name ∙ ap (λ (t : Term). made (instance_name i) t bs) guard
-    ∙ ap (made (instance_name i) (folded (data_of m) true (unfolded_term m (own_scope i) i.step.guard))) (assigned ∙ changes-folded m (own_scope i) i.step.assignments (all_elements m)) in
+pub step-kept : (m : Protocol) (i : Instance) (x : Name) (vs : List Variable) (g : Term) (bs : List flat.Assignment) → x ≡ instance_name i → vs ≡ own_left i.whole i.step.variables
+    → g ≡ folded (data_of m) true (unfolded_term m (own_scope i) i.step.guard)
+    → bs ≡ changes m (own_scope i) i.step.assignments (all_elements m) → not (is_false g) ≡ true → made x vs g bs ∷ [] ≡ kept_step m i
+step-kept m i x vs g bs name left guard assigned possible =
+    let us = own_left i.whole i.step.variables in
+    let same : made x vs g bs ≡ instance_step m i =
+    ap (λ (y : Name). made y vs g bs) name ∙ ap (λ (ws : List Variable). made (instance_name i) ws g bs) left ∙ ap (λ (t : Term). made (instance_name i) us t bs) guard
+    ∙ ap (made (instance_name i) us (folded (data_of m) true (unfolded_term m (own_scope i) i.step.guard))) (assigned ∙ changes-folded m (own_scope i) i.step.assignments (all_elements m)) in
     ap (λ (a : flat.Step). a ∷ []) same ∙ kept (instance_step m i) (ap (λ (t : Term). not (is_false t)) (sym guard) ∙ possible)
 
 -- and one that may not
@@ -146,10 +147,6 @@ found-kept m i (Some a) e = by (is_kept m i) e
     by false h = absurd (something (step_said a) h)
 
 -- a step that the code makes
-pub step-made : (a : declared_step.Step) → a.variables.items ≡ [] → step_said a ≡ made (string_bytes a.name.text) (term_of a.guard) (map step_assignment a.assignments.items)
-step-made a empty =
-    ap (λ (v : List Variables). with_variables (erased_variables (variable_forms v))) empty
-    ∙ ap (made (string_bytes a.name.text) (term_of a.guard)) (sym (assignments-said a.assignments.items))
-  where
-    with_variables : List Variable → flat.Step
-    with_variables v = record { name = string_bytes a.name.text; variables = v; guard = term_of a.guard; assignments = map erased_assignment (map assignment_form a.assignments.items) }
+pub step-made : (a : declared_step.Step)
+    → step_said a ≡ made (string_bytes a.name.text) (erased_variables (variable_forms a.variables.items)) (term_of a.guard) (map step_assignment a.assignments.items)
+step-made a = ap (made (string_bytes a.name.text) (erased_variables (variable_forms a.variables.items)) (term_of a.guard)) (sym (assignments-said a.assignments.items))

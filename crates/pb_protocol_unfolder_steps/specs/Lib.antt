@@ -7,3 +7,4 @@ pub mod TermContexts
 pub mod Unfolder
 pub mod StepFaults
 pub mod Written
+pub mod WholeSteps

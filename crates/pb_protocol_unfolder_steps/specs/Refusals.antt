@@ -8,6 +8,7 @@ use Rattle.pb_protocol_tree.specs.declared.protocol.StateVariable as declared_va
 use Rattle.pb_protocol_tree.specs.declared.protocol.StateVariables as declared_state
 use Rattle.pb_protocol_tree.specs.declared.step.Step as declared_step
 use Rattle.pb_protocol_tree.specs.Form.{StateVariableForm, StepForm, ProtocolForm}
+use Rattle.pb_protocol_meaning.specs.Syntax.{Protocol}
 use Rattle.pb_protocol_meaning.specs.Erase.{erase, erased_state_variable, erased_step}
 use Rattle.pb_protocol_meaning.specs.Steps.{data_of}
 use Rattle.pb_protocol_unfolding.specs.Unfolding.{elements_of, instances_of}
@@ -31,11 +32,11 @@ abbrev pub element_places : ProtocolForm → List Place
 element_places m = flat_map (places_of_elements (data_of (erase m))) m.variables
 
 -- a step with its values stands where the step's name does
-abbrev pub places_of_instances : Spec → StepForm → List Place
-places_of_instances spec a = each_at a.name.place (instances_of spec (erased_step a))
+abbrev pub places_of_instances : Protocol → StepForm → List Place
+places_of_instances m a = each_at a.name.place (instances_of m (erased_step a))
 
 abbrev pub instance_places : ProtocolForm → List Place
-instance_places m = flat_map (places_of_instances (data_of (erase m))) m.steps
+instance_places m = flat_map (places_of_instances (erase m)) m.steps
 
 -- ---- of the trees
 
@@ -56,11 +57,11 @@ places_of_state spec state = flat_map (places_of_group spec) state
 abbrev pub instance_place : declared_instance.Instance → Place
 instance_place i = i.step.now.name.place
 
-abbrev pub places_of_step : Spec → declared_step.Step → List Place
-places_of_step spec a = each_at a.name.place (instances_of_step spec a)
+abbrev pub places_of_step : Protocol → declared_step.Step → List Place
+places_of_step m a = each_at a.name.place (instances_of_step m a)
 
-abbrev pub places_of_steps : Spec → List declared_step.Step → List Place
-places_of_steps spec steps = flat_map (places_of_step spec) steps
+abbrev pub places_of_steps : Protocol → List declared_step.Step → List Place
+places_of_steps m steps = flat_map (places_of_step m) steps
 
 -- ---- faults
 

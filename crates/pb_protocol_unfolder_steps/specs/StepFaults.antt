@@ -1,21 +1,22 @@
 -- What the fault of a term says: in the steps of a protocol with their values, and in the values at
 -- the start.
-use Rattle.std.specs.Prelude.{◌≡◌, ◌⊎◌, ℕ, List, [], ◌∷◌, map, flat_map, Contains, Some}
+use Rattle.std.specs.Prelude.{◌≡◌, ◌⊎◌, ℕ, Bool, true, false, if◌then◌else◌, List, [], ◌∷◌, map, flat_map, Contains, Some}
 use Rattle.std.specs.List.{slice_get}
 use Rattle.pb_base.specs.declared.or_memory.OrMemory.{OrMemory}
 use Rattle.pb_base.specs.declared.or_memory.OrMemory.TheVariants.{Refused, Memory}
 use Rattle.pb_text_tree.specs.declared.place.Place.{Place}
 use Rattle.pb_text_tree.specs.declared.term.Argument as declared_argument
 use Rattle.pb_text_tree.specs.Form.{ArgumentForms, TermForm, argument, no_arguments, term_form}
-use Rattle.pb_text_meaning.specs.Syntax.{Term, Spec, Variable}
+use Rattle.pb_text_meaning.specs.Syntax.{Term, Variable}
 use Rattle.pb_text_meaning.specs.Erase.{erased_variables}
 use Rattle.pb_protocol_tree.specs.declared.step.Step as declared_step
 use Rattle.pb_protocol_tree.specs.Form.{AssignmentForm, ProtocolForm, StateVariableForm, StepForm}
 use Rattle.pb_protocol_tree.specs.Form.{step_form}
-use Rattle.pb_protocol_meaning.specs.Erase.{erase}
+use Rattle.pb_protocol_meaning.specs.Syntax.{Protocol}
+use Rattle.pb_protocol_meaning.specs.Erase.{erase, erased_step}
 use Rattle.pb_protocol_meaning.specs.Steps.{data_of}
 use Rattle.pb_protocol_unfolding.specs.PutIn.{TermScope}
-use Rattle.pb_protocol_unfolding.specs.Unfolding.{Element, all_elements, written}
+use Rattle.pb_protocol_unfolding.specs.Unfolding.{Element, all_elements, is_whole, own_terms, written}
 use Rattle.pb_protocol_unfolding.specs.Written.{written_tuples}
 use Rattle.pb_protocol_unfolder_terms.specs.declared.scope.TermScope as declared_scope
 use Rattle.pb_protocol_unfolder_terms.specs.declared.fault.UnfoldFault.{UnfoldFault}
@@ -32,28 +33,34 @@ use Rattle.pb_protocol_unfolder_steps.specs.declared.instance.Instance as declar
 
 pub record PlacedInstance : Type 0 where
   pub step : StepForm
+  pub whole : Bool
   pub own : List Term
 
-abbrev pub placed_at : StepForm → List Term → PlacedInstance
-placed_at a own = record { step = a; own = own }
+abbrev pub placed_whole : StepForm → PlacedInstance
+placed_whole a = record { step = a; whole = true; own = [] }
 
-abbrev pub placed_instances_of : Spec → StepForm → List PlacedInstance
-placed_instances_of spec a =
-    map (placed_at a) (written_tuples spec (erased_variables a.variables))
+abbrev pub placed_at : StepForm → List Term → PlacedInstance
+placed_at a own = record { step = a; whole = false; own = own }
+
+abbrev pub placed_instances_of : Protocol → StepForm → List PlacedInstance
+placed_instances_of m a =
+    if is_whole m (erased_step a) then placed_whole a ∷ []
+    else map (placed_at a) (written_tuples (data_of m) (erased_variables a.variables))
 
 abbrev pub placed_instances : ProtocolForm → List PlacedInstance
-placed_instances m = flat_map (placed_instances_of (data_of (erase m))) m.steps
+placed_instances m = flat_map (placed_instances_of (erase m)) m.steps
 
 -- ---- of the trees
 
 abbrev pub placed_instance : declared_instance.Instance → PlacedInstance
-placed_instance i = placed_at (step_form i.step.now) (tuple_of i.own)
+placed_instance i =
+    record { step = step_form i.step.now; whole = i.whole; own = tuple_of i.own }
 
-abbrev pub forms_of_step : Spec → declared_step.Step → List PlacedInstance
-forms_of_step spec a = placed_instances_of spec (step_form a)
+abbrev pub forms_of_step : Protocol → declared_step.Step → List PlacedInstance
+forms_of_step m a = placed_instances_of m (step_form a)
 
-abbrev pub forms_of_steps : Spec → List declared_step.Step → List PlacedInstance
-forms_of_steps spec steps = flat_map (forms_of_step spec) steps
+abbrev pub forms_of_steps : Protocol → List declared_step.Step → List PlacedInstance
+forms_of_steps m steps = flat_map (forms_of_step m) steps
 
 -- ---- faults
 
@@ -72,10 +79,12 @@ IsFaultInAssigned m ρ assignments elements r p =
     IsFaultInCopying (data_of (erase m)) assignments r p
     ⊎ IsFaultInElements m ρ assignments elements r p
 
--- in the guard or in the assignments, where the step's own variables stand for the values
+-- in the guard or in the assignments, where the step's own variables stand for the values, or for
+-- themselves
 abbrev pub IsFaultInStep : ProtocolForm → PlacedInstance → UnfoldRule → Place → Type 0
 IsFaultInStep m i r p =
-    let ρ = written (erased_variables i.step.variables) i.own in
+    let xs = erased_variables i.step.variables in
+    let ρ = written xs (own_terms i.whole xs i.own) in
     IsFaultInTerm (surroundings_of m) ρ i.step.guard r p
     ⊎ IsFaultInAssigned m ρ i.step.assignments (all_elements (erase m)) r p
 

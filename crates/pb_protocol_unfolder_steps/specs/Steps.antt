@@ -16,7 +16,7 @@ use Rattle.pb_protocol_meaning.specs.Erase as protocol_erase
 use Rattle.pb_protocol_meaning.specs.Syntax.{Assignment, Protocol}
 use Rattle.pb_protocol_meaning.specs.Steps.{data_of}
 use Rattle.pb_protocol_unfolding.specs.PutIn.{TermScope}
-use Rattle.pb_protocol_unfolding.specs.Unfolding.{Element, Instance, written, unfolded_assignment}
+use Rattle.pb_protocol_unfolding.specs.Unfolding.{Element, Instance, unfolded_assignment}
 use Rattle.pb_protocol_unfolding.specs.Unfolding.{unfolded_step}
 
 abbrev pub step_assignment : declared_assignment.Assignment → flat.Assignment
@@ -45,10 +45,6 @@ changed m ρ assignments e =
 
 abbrev pub changes : Protocol → TermScope → List Assignment → List Element → List flat.Assignment
 changes m ρ assignments elements = flat_map (changed m ρ assignments) elements
-
--- a step's own variables stand for its values
-abbrev pub own_scope : Instance → TermScope
-own_scope i = written i.step.variables i.own
 
 -- a step with its values, folded
 abbrev pub instance_step : Protocol → Instance → flat.Step

@@ -3,6 +3,8 @@
 ghost use Rattle.std.specs.Prelude.{◌≡◌, ◌≤◌, ◌+◌, ◌++◌, length, map, IfOk, OnOk};
 ghost use Rattle.pb_base.specs.OrMemory.{IfRefused};
 ghost use Rattle.pb_protocol_tree.specs.Form.{protocol_form};
+ghost use Rattle.pb_protocol_unfolding.specs.Unfolding as definitions;
+ghost use Rattle.pb_protocol_whole_steps.specs.View.{name_bytes};
 ghost use Rattle.pb_protocol_unfolder_terms.specs.View.{spec_of};
 ghost use Rattle.pb_protocol_unfolder_terms.specs.Values.{tuple_of};
 ghost use Rattle.pb_protocol_unfolder_steps.specs.Elements.{element_at, flat_element, elements_of_group};
@@ -17,7 +19,7 @@ use crate::limits::{MAX_ELEMENTS, check_limit};
 use crate::sorts::sorts_of;
 use crate::tuples::all_tuples;
 use pb_protocol_tree::{Protocol, StateVariable, StateVariables};
-use pb_protocol_unfolder_terms::{Sorts, Written};
+use pb_protocol_unfolder_terms::{Sorts, Written, element_name};
 use pb_text_tree::Name;
 use std::alloc::{AllocError, Global};
 
@@ -132,4 +134,19 @@ pub fn elements<'a>(alloc: Global, protocol: &'a Protocol) -> Result<Vec<Element
         (IsPassedIn MAX_ELEMENTS (element_places (protocol_form protocol.now))) }
 {
     elements_of(alloc, sorts_of(protocol), &protocol.state)
+}
+
+/// The names of elements in a flat model, each where the array's name stands.
+///
+/// # Errors
+/// Memory was refused.
+pub fn element_names(alloc: Global, elements: &[Element<'_>]) -> Result<Vec<Name>, AllocError>
+    ensures { IfOk result (λ v. map name_bytes v.items
+        ≡ map definitions.name_of (map flat_element elements.now)) }
+{
+    let mut names = Vec::new(alloc);
+    for element in elements {
+        names.push(element_name(alloc, element.name, &element.index)?)?;
+    }
+    Ok(names)
 }

@@ -1,16 +1,18 @@
-//! The steps of a flat model: those of a protocol with their values put in, folded, without those
-//! that no state can take.
+//! The steps of a flat model: those of a protocol that stay whole, or with their values put in,
+//! folded, without those that no state can take.
 
 ghost use Rattle.std.specs.Prelude.{◌≡◌, ◌≤◌, ◌<◌, ◌++◌, suc, [], ◌∷◌, length, map, IfOk, OnOk};
-ghost use Rattle.std.specs.Prelude.{IfSome, is_some};
+ghost use Rattle.std.specs.Prelude.{IfSome, is_some, string_bytes};
 ghost use Rattle.pb_base.specs.OrMemory.{IfRefused};
+ghost use Rattle.pb_text_tree.specs.Form.{variable_forms};
+ghost use Rattle.pb_text_meaning.specs.Erase.{erased_variables};
 ghost use Rattle.pb_protocol_folding.specs.FoldedModels.{folded_steps};
 ghost use Rattle.pb_protocol_meaning.specs.Steps.{data_of};
 ghost use Rattle.pb_protocol_unfolding.specs.Unfolding as definitions;
-ghost use Rattle.pb_protocol_unfolder_steps.specs.Elements.{instance_said};
+ghost use Rattle.pb_protocol_unfolder_steps.specs.Elements.{instance_said, own_variables};
 ghost use Rattle.pb_protocol_unfolder_steps.specs.StepFaults.{IsFaultInStep, IsFaultInSteps, OnTerm};
 ghost use Rattle.pb_protocol_unfolder_steps.specs.StepFaults.{WithValues, placed_instance};
-ghost use Rattle.pb_protocol_unfolder_steps.specs.Steps.{IsStepAt, is_kept, own_scope, place_of_step};
+ghost use Rattle.pb_protocol_unfolder_steps.specs.Steps.{IsStepAt, is_kept, place_of_step};
 ghost use Rattle.pb_protocol_unfolder_steps.specs.Steps.{places_from, step_found, step_place};
 ghost use Rattle.pb_protocol_unfolder_steps.specs.Steps.{step_said};
 ghost use Rattle.pb_protocol_unfolder_steps.specs.Unfolder.{form_in, protocol_in, scope_within};
@@ -19,13 +21,14 @@ use crate::assignment::unfold_all;
 use crate::fault::StepsError;
 use crate::instance::{Instance, instance_name};
 use crate::limits::MAX_WRITTEN_STEPS;
+use crate::own::{own_left, own_values};
 use crate::unfolder::Unfolder;
 use pb_base::OrMemory;
 use pb_model_tree as flat;
 use pb_protocol_folding::is_possible;
 use pb_protocol_unfolder_terms::{TermScope, paired, variables_of};
-use pb_text_tree::{Name, Place};
-use std::alloc::AllocError;
+use pb_text_tree::{Name, Place, Variables};
+use std::alloc::{AllocError, Global};
 
 /// The steps of a flat model.
 #[derive(Drop)]
@@ -37,6 +40,25 @@ pub struct UnfoldedSteps {
     pub kept: Vec<bool>,
 }
 
+/// What a flat step begins with: its name, and the own variables that it keeps.
+#[derive(Drop)]
+struct Head {
+    name: Name,
+    variables: Vec<Variables>,
+}
+
+/// What the flat step of a step with its values, or of one that stays whole, begins with.
+fn head_of(alloc: Global, instance: &Instance<'_>) -> Result<Head, AllocError>
+    ensures name { IfOk result (λ head. string_bytes head.name.text
+        ≡ definitions.instance_name (instance_said instance.now)) }
+    ensures variables { IfOk result (λ head. erased_variables (variable_forms head.variables.items)
+        ≡ definitions.own_left instance.now.whole (own_variables instance.now.step.now)) }
+{
+    let name = instance_name(alloc, instance)?;
+    let variables = own_left(alloc, instance)?;
+    Ok(Head { name, variables })
+}
+
 /// A step with its values, where it may be taken; its name stands at the place.
 fn unfold_in_scope(
     unfolder: &Unfolder<'_, '_>,
@@ -45,7 +67,7 @@ fn unfold_in_scope(
     place: Place,
 ) -> Result<Option<flat::Step>, StepsError>
     requires scope { scope_within unfolder.now scope.now
-        ≡ own_scope (instance_said instance.now) }
+        ≡ definitions.own_scope (instance_said instance.now) }
     ensures step { IfOk result
         (IsStepAt (protocol_in unfolder.now) (instance_said instance.now) place) }
     ensures refused { IfRefused result (OnTerm (WithValues scope.now
@@ -59,14 +81,14 @@ fn unfold_in_scope(
     }
     let assignments = unfold_all(unfolder, scope, &step.assignments, step.name.place);
     let (guard, assignments) = paired(guard, assignments)?;
-    let Ok(name) = instance_name(unfolder.alloc(), instance) else {
+    let Ok(head) = head_of(unfolder.alloc(), instance) else {
         drop((guard, assignments));
         return Err(OrMemory::Memory);
     };
-    let text = name.text;
+    let text = head.name.text;
     Ok(Some(flat::Step {
         name: Name { place, text },
-        variables: Vec::new(unfolder.alloc()),
+        variables: head.variables,
         guard,
         assignments,
     }))
@@ -84,9 +106,10 @@ fn unfold_step(
         (IsFaultInStep (form_in unfolder.now) (placed_instance instance.now))) }
 {
     let variables = variables_of(unfolder.alloc(), &instance.step.variables)?;
+    let values = own_values(unfolder.alloc(), instance)?;
     let scope = TermScope::Values {
         variables: &variables,
-        values: &instance.own,
+        values: &values,
         outer: &TermScope::Empty,
     };
     unfold_in_scope(unfolder, instance, &scope, place)

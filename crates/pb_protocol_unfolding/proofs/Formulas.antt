@@ -1,12 +1,12 @@
 -- Formulas of the flat model are satisfied where those of the protocol are.
-use Rattle.std.proofs.Common.{◌≡◌, Bool, false, not, ◌&&◌, ◌||◌, if◌then◌else◌, List, [], ◌∷◌, refl, sym, ap, ◌∙◌}
+use Rattle.std.proofs.Common.{◌≡◌, Bool, false, not, ◌&&◌, ◌||◌, if◌then◌else◌, List, [], ◌∷◌, ◌++◌, refl, sym, ap, ◌∙◌}
 use Rattle.std.specs.List.{list_any, list_all}
 use Rattle.std.proofs.Math.Path.{fun_ext}
 use Rattle.pb_fixpoint.specs.Solution.{iterate, start}
 use Rattle.pb_base_values.specs.Carrier.{Value, Carrier, is_within, tuple_count}
 use Rattle.pb_text_tree.specs.declared.operator.Quantifier.{Quantifier}
 use Rattle.pb_text_tree.specs.declared.operator.Quantifier.TheVariants.{Forall, Exists}
-use Rattle.pb_text_meaning.specs.Syntax.{Variable, Term}
+use Rattle.pb_text_meaning.specs.Syntax.{Name, Variable, Term}
 use Rattle.pb_text_meaning.specs.Sorts.{carrier_of}
 use Rattle.pb_text_meaning.specs.Value as data_value
 use Rattle.pb_text_meaning.specs.Value.{of_values, quantified, is_true, value}
@@ -21,12 +21,14 @@ use Rattle.pb_protocol_meaning.specs.Steps.{data_of, is_state}
 use Rattle.pb_protocol_meaning.specs.Satisfaction.{state_count, is_truth, holds_at, satisfying}
 use Rattle.pb_protocol_unfolding.specs.Written.{written_values}
 use Rattle.pb_protocol_unfolding.specs.PutIn.{TermScope, copies}
+use Rattle.pb_protocol_unfolding.specs.Whole.{valued_in, valued_in_set}
 use Rattle.pb_protocol_unfolding.specs.Unfolding.{valued, joined_formulas, unfolded_set, unfolded_formula, unfolded}
 use Rattle.pb_protocol_unfolding.specs.Hygiene.{HidesNothing}
-use Rattle.pb_protocol_unfolding.specs.ModelLaws.{of_formulas, QuantifiedFormulasAreCopies, FormulasAreUnfolded}
+use Rattle.pb_protocol_unfolding.specs.ModelLaws.{NamesNoWhole, of_formulas, QuantifiedFormulasAreCopies, FormulasAreUnfolded}
 use Rattle.pb_protocol_unfolding.proofs.States.{AreSettled, ScopeIsSettled, put_in-here, keeps-nowhere, written-settled, carriers-same}
 use Rattle.pb_protocol_unfolding.proofs.PutIn.{of_values-list}
 use Rattle.pb_protocol_unfolding.proofs.Successors.{successors-here}
+use Rattle.pb_protocol_unfolding.proofs.WholeSteps.{among-front, among-behind}
 
 -- ---- what is joined
 
@@ -55,6 +57,13 @@ truth-unfolded m (Formula.Box A f) ρ = refl
 truth-unfolded m (Formula.Diamond A f) ρ = refl
 truth-unfolded m (Formula.Fixpoint sign X f) ρ = refl
 truth-unfolded m (Formula.Quantified q xs f) ρ = joined-truth q (copies (data_of m) xs (λ σ. unfolded_formula m σ f) ρ)
+
+-- of more names those in front, and those behind
+pub front-names : (m : Protocol) (xs ys : List Name) → NamesNoWhole m (xs ++ ys) → NamesNoWhole m xs
+front-names m xs ys names a whole = among-front xs ys a.name (names a whole)
+
+pub behind-names : (m : Protocol) (xs ys : List Name) → NamesNoWhole m (xs ++ ys) → NamesNoWhole m ys
+behind-names m xs ys names a whole = among-behind xs ys a.name (names a whole)
 
 module _ (m : Protocol) (hides : HidesNothing m) where
   pub states-same : (s : State) → flat_steps.is_state (unfolded m) s ≡ is_state m s
@@ -98,38 +107,40 @@ module _ (m : Protocol) (hides : HidesNothing m) where
       (ap (λ b. if is_state m t then b else flat_satisfaction.is_truth (unfolded_formula m ρ f)) (same t) ∙
       ap (λ b. if is_state m t then satisfying m V (valued (data_of m) [] ρ) f t else b) (truth-unfolded m f ρ))
 
-  pub satisfying-unfolded : (f : Formula) (V : Valuation) (ρ : TermScope) → ScopeIsSettled m ρ → (s : State) →
+  pub satisfying-unfolded : (f : Formula) (V : Valuation) (ρ : TermScope) → ScopeIsSettled m ρ → NamesNoWhole m (valued_in f) → (s : State) →
       flat_satisfaction.satisfying (unfolded m) V (unfolded_formula m ρ f) s ≡ satisfying m V (valued (data_of m) [] ρ) f s
-  satisfying-unfolded (Formula.Truth b) V ρ h s = refl
-  satisfying-unfolded (Formula.Data x) V ρ h s = ap is_true (put_in-here m hides s ρ h x)
-  satisfying-unfolded (Formula.Named X) V ρ h s = refl
-  satisfying-unfolded (Formula.Not f) V ρ h s = ap not (satisfying-unfolded f V ρ h s)
-  satisfying-unfolded (Formula.And f g) V ρ h s =
-      ap (λ b. b && flat_satisfaction.satisfying (unfolded m) V (unfolded_formula m ρ g) s) (satisfying-unfolded f V ρ h s) ∙
-      ap (λ b. satisfying m V (valued (data_of m) [] ρ) f s && b) (satisfying-unfolded g V ρ h s)
-  satisfying-unfolded (Formula.Or f g) V ρ h s =
-      ap (λ b. b || flat_satisfaction.satisfying (unfolded m) V (unfolded_formula m ρ g) s) (satisfying-unfolded f V ρ h s) ∙
-      ap (λ b. satisfying m V (valued (data_of m) [] ρ) f s || b) (satisfying-unfolded g V ρ h s)
-  satisfying-unfolded (Formula.Implies f g) V ρ h s =
-      ap (λ b. not b || flat_satisfaction.satisfying (unfolded m) V (unfolded_formula m ρ g) s) (satisfying-unfolded f V ρ h s) ∙
-      ap (λ b. not (satisfying m V (valued (data_of m) [] ρ) f s) || b) (satisfying-unfolded g V ρ h s)
-  satisfying-unfolded (Formula.Box A f) V ρ h s =
-      ap (λ (p : State → Bool). list_all p (flat_steps.successors (unfolded m) (unfolded_set m ρ A) s)) (fun_ext (holds-unfolded V ρ f (λ t. satisfying-unfolded f V ρ h t))) ∙
-      ap (list_all (holds_at m f (satisfying m V (valued (data_of m) [] ρ) f))) (successors-here m hides ρ A s)
-  satisfying-unfolded (Formula.Diamond A f) V ρ h s =
-      ap (λ (p : State → Bool). list_any p (flat_steps.successors (unfolded m) (unfolded_set m ρ A) s)) (fun_ext (holds-unfolded V ρ f (λ t. satisfying-unfolded f V ρ h t))) ∙
-      ap (list_any (holds_at m f (satisfying m V (valued (data_of m) [] ρ) f))) (successors-here m hides ρ A s)
-  satisfying-unfolded (Formula.Fixpoint sign X f) V ρ h s =
+  satisfying-unfolded (Formula.Truth b) V ρ h names s = refl
+  satisfying-unfolded (Formula.Data x) V ρ h names s = ap is_true (put_in-here m hides s ρ h x)
+  satisfying-unfolded (Formula.Named X) V ρ h names s = refl
+  satisfying-unfolded (Formula.Not f) V ρ h names s = ap not (satisfying-unfolded f V ρ h names s)
+  satisfying-unfolded (Formula.And f g) V ρ h names s =
+      ap (λ b. b && flat_satisfaction.satisfying (unfolded m) V (unfolded_formula m ρ g) s) (satisfying-unfolded f V ρ h (front-names m (valued_in f) (valued_in g) names) s) ∙
+      ap (λ b. satisfying m V (valued (data_of m) [] ρ) f s && b) (satisfying-unfolded g V ρ h (behind-names m (valued_in f) (valued_in g) names) s)
+  satisfying-unfolded (Formula.Or f g) V ρ h names s =
+      ap (λ b. b || flat_satisfaction.satisfying (unfolded m) V (unfolded_formula m ρ g) s) (satisfying-unfolded f V ρ h (front-names m (valued_in f) (valued_in g) names) s) ∙
+      ap (λ b. satisfying m V (valued (data_of m) [] ρ) f s || b) (satisfying-unfolded g V ρ h (behind-names m (valued_in f) (valued_in g) names) s)
+  satisfying-unfolded (Formula.Implies f g) V ρ h names s =
+      ap (λ b. not b || flat_satisfaction.satisfying (unfolded m) V (unfolded_formula m ρ g) s) (satisfying-unfolded f V ρ h (front-names m (valued_in f) (valued_in g) names) s) ∙
+      ap (λ b. not (satisfying m V (valued (data_of m) [] ρ) f s) || b) (satisfying-unfolded g V ρ h (behind-names m (valued_in f) (valued_in g) names) s)
+  satisfying-unfolded (Formula.Box A f) V ρ h names s =
+      ap (λ (p : State → Bool). list_all p (flat_steps.successors (unfolded m) (unfolded_set m ρ A) s))
+      (fun_ext (holds-unfolded V ρ f (λ t. satisfying-unfolded f V ρ h (behind-names m (valued_in_set A) (valued_in f) names) t))) ∙
+      ap (list_all (holds_at m f (satisfying m V (valued (data_of m) [] ρ) f))) (successors-here m hides ρ A s (front-names m (valued_in_set A) (valued_in f) names))
+  satisfying-unfolded (Formula.Diamond A f) V ρ h names s =
+      ap (λ (p : State → Bool). list_any p (flat_steps.successors (unfolded m) (unfolded_set m ρ A) s))
+      (fun_ext (holds-unfolded V ρ f (λ t. satisfying-unfolded f V ρ h (behind-names m (valued_in_set A) (valued_in f) names) t))) ∙
+      ap (list_any (holds_at m f (satisfying m V (valued (data_of m) [] ρ) f))) (successors-here m hides ρ A s (front-names m (valued_in_set A) (valued_in f) names))
+  satisfying-unfolded (Formula.Fixpoint sign X f) V ρ h names s =
       ap (λ (cs : List Carrier). iterate (tuple_count cs) (λ S. flat_satisfaction.satisfying (unfolded m) (with_set V X S) (unfolded_formula m ρ f)) (start sign) s) (carriers-same m hides) ∙
       ap (λ (g : States → States). iterate (state_count m) g (start sign) s)
-      (fun_ext (λ S. fun_ext (λ t. satisfying-unfolded f (with_set V X S) ρ h t)))
-  satisfying-unfolded (Formula.Quantified q xs f) V ρ h s =
+      (fun_ext (λ S. fun_ext (λ t. satisfying-unfolded f (with_set V X S) ρ h names t)))
+  satisfying-unfolded (Formula.Quantified q xs f) V ρ h names s =
       joined-satisfying (unfolded m) V q (copies (data_of m) xs (λ σ. unfolded_formula m σ f) ρ) s ∙
       copies-satisfying q xs (λ σ. unfolded_formula m σ f) (λ g. flat_satisfaction.satisfying (unfolded m) V g s) (λ d. satisfying m V d f s)
-      (λ σ k. satisfying-unfolded f V σ k s) ρ h
+      (λ σ k. satisfying-unfolded f V σ k names s) ρ h
 
 pub formulas_are_unfolded : FormulasAreUnfolded
-formulas_are_unfolded m hides V f s = satisfying-unfolded m hides f V [] tt s
+formulas_are_unfolded m hides V f names s = satisfying-unfolded m hides f V [] tt names s
 
 pub quantified_formulas_are_copies : QuantifiedFormulasAreCopies
 quantified_formulas_are_copies m V ρ q xs f s =

@@ -4,6 +4,7 @@ pub mod Reading
 pub mod Assigned
 pub mod States
 pub mod NextStates
+pub mod WholeSteps
 pub mod Successors
 pub mod Formulas
 pub mod Models

@@ -62,8 +62,8 @@ pub models_are_unfolded : ModelsAreUnfolded
 models_are_unfolded m hides = (
   initial-state m hides,
   states-same m hides,
-  λ f.
+  λ f names.
       ap (λ (s : State). flat_steps.is_state (unfolded m) s && flat_satisfaction.satisfying (unfolded m) no_sets (unfolded_formula m [] f) s) (initial-state m hides) ∙
       (ap (λ b. b && flat_satisfaction.satisfying (unfolded m) no_sets (unfolded_formula m [] f) (initial_state m)) (states-same m hides (initial_state m)) ∙
-      ap (λ b. is_state m (initial_state m) && b) (formulas_are_unfolded m hides no_sets f (initial_state m))),
+      ap (λ b. is_state m (initial_state m) && b) (formulas_are_unfolded m hides no_sets f names (initial_state m))),
 )

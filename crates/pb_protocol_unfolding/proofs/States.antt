@@ -1,17 +1,17 @@
 -- What terms of the flat model say of its states.
-use Rattle.std.proofs.Common.{◌≡◌, ℕ, suc, Bool, true, false, true≢false, ◌&&◌, if◌then◌else◌, List, [], ◌∷◌, ◌++◌, map, flat_map, length, drop, refl, sym, ap, ◌∙◌, subst}
+use Rattle.std.proofs.Common.{◌≡◌, ℕ, Bool, true, false, true≢false, ◌&&◌, if◌then◌else◌, List, [], ◌∷◌, ◌++◌, map, flat_map, length, drop, refl, sym, ap, ◌∙◌, subst}
 use Rattle.std.specs.Prelude.{pos, Option, Some, None, unwrap_or}
 use Rattle.std.proofs.lemmas.List.{map-append}
 use Rattle.pb_base_values.specs.Carrier.{Value, Tuple, tuples}
-use Rattle.pb_text_meaning.specs.Syntax.{Name, same_name, Variable, Term, Enumerator, Sort, Struct, Alias, SortDeclaration, Spec}
-use Rattle.pb_text_meaning.specs.Sorts.{carrier_of, place_from, or_else, place_within, place_in}
+use Rattle.pb_text_meaning.specs.Syntax.{Name, same_name, Variable, Term, Spec}
+use Rattle.pb_text_meaning.specs.Sorts.{carrier_of, place_in}
 use Rattle.pb_text_meaning.specs.Value as data_value
 use Rattle.pb_text_meaning.specs.Value.{looked_up, is_true, named_value, value, values}
 use Rattle.pb_text_meaning.specs.Formula.{carriers_of}
 use Rattle.pb_text_meaning.specs.Meaning.{assigned}
 use Rattle.pb_model_meaning.specs.Steps.{State}
 use Rattle.pb_model_meaning.specs.Steps as flat_steps
-use Rattle.pb_protocol_folding.specs.Names.{IsNot, AreDistinct, AreNot, names_in, enumerators_in, HidesNoEnumerator}
+use Rattle.pb_protocol_folding.specs.Names.{IsNot, AreDistinct, AreNot, enumerators_in, HidesNoEnumerator}
 use Rattle.pb_protocol_meaning.specs.Syntax.{StateVariable, Protocol}
 use Rattle.pb_protocol_meaning.specs.Meaning.{meaning}
 use Rattle.pb_protocol_meaning.specs.Steps.{data_of, indices_of, Position, positions_of, positions, state_carriers, function_at, variables_at, functions_at, value_at}
@@ -151,7 +151,7 @@ other_values (v ∷ vs) = vs
 
 module _ (m : Protocol) where
   abbrev pub IsSettled : Term → Type 0
-  IsSettled k = (s : State) → value (data_of m) (elements_at m s) k ≡ value (data_of m) [] k
+  IsSettled k = (a : data_value.Assignment) → HidesNoEnumerator (data_of m) a → value (data_of m) a k ≡ value (data_of m) [] k
 
   abbrev pub AreSettled : List Term → Type 0
   AreSettled [] = Unit {0}
@@ -161,18 +161,18 @@ module _ (m : Protocol) where
   ScopeIsSettled [] = Unit {0}
   ScopeIsSettled ((x, k) ∷ ρ) = IsSettled k × ScopeIsSettled ρ
 
-  settled-by : (ks : List Term) → ((s : State) → map (value (data_of m) (elements_at m s)) ks ≡ map (value (data_of m) []) ks) → AreSettled ks
+  settled-by : (ks : List Term) → ((a : data_value.Assignment) → HidesNoEnumerator (data_of m) a → map (value (data_of m) a) ks ≡ map (value (data_of m) []) ks) → AreSettled ks
   settled-by [] h = tt
-  settled-by (k ∷ ks) h = ((λ s. ap first_value (h s)), settled-by ks (λ s. ap other_values (h s)))
+  settled-by (k ∷ ks) h = ((λ a e. ap first_value (h a e)), settled-by ks (λ a e. ap other_values (h a e)))
 
-  pub settled-values : (ks : List Term) → AreSettled ks → (s : State) → map (value (data_of m) (elements_at m s)) ks ≡ values_of m ks
-  settled-values [] h s = refl
-  settled-values (k ∷ ks) h s = ap (λ v. v ∷ map (value (data_of m) (elements_at m s)) ks) (h.0 s) ∙ ap (λ vs. value (data_of m) [] k ∷ vs) (settled-values ks h.1 s)
+  pub settled-values : (ks : List Term) → AreSettled ks → (a : data_value.Assignment) → HidesNoEnumerator (data_of m) a → map (value (data_of m) a) ks ≡ values_of m ks
+  settled-values [] h a e = refl
+  settled-values (k ∷ ks) h a e = ap (λ v. v ∷ map (value (data_of m) a) ks) (h.0 a e) ∙ ap (λ vs. value (data_of m) [] k ∷ vs) (settled-values ks h.1 a e)
 
-  pub scope-values : (ρ : TermScope) → ScopeIsSettled ρ → (s : State) → valued (data_of m) (elements_at m s) ρ ≡ valued (data_of m) [] ρ
-  scope-values [] h s = refl
-  scope-values ((x, k) ∷ ρ) h s =
-      ap (λ v. (x, v) ∷ valued (data_of m) (elements_at m s) ρ) (h.0 s) ∙ ap (λ c. (x, value (data_of m) [] k) ∷ c) (scope-values ρ h.1 s)
+  pub scope-values : (ρ : TermScope) → ScopeIsSettled ρ → (a : data_value.Assignment) → HidesNoEnumerator (data_of m) a → valued (data_of m) a ρ ≡ valued (data_of m) [] ρ
+  scope-values [] h a e = refl
+  scope-values ((x, k) ∷ ρ) h a e =
+      ap (λ v. (x, v) ∷ valued (data_of m) a ρ) (h.0 a e) ∙ ap (λ c. (x, value (data_of m) [] k) ∷ c) (scope-values ρ h.1 a e)
 
   pub standing-settled : (xs : List Variable) (ks : List Term) (ρ : TermScope) → AreSettled ks → ScopeIsSettled ρ → ScopeIsSettled (standing xs (terms_of ks) ρ)
   standing-settled [] ks ρ h r = r
@@ -206,26 +206,37 @@ module _ (m : Protocol) (hides : HidesNothing m) where
       let zs = map name_of (all_elements m) in
       elements-found (data_of m) (all_elements m) s [] hides.elements (elements-unknown (data_of m) zs hides.values zs (λ x n. n))
 
-  pub reads-here : (s : State) → Means (data_of m) (elements_at m s) (reads (data_of m) m.variables) (variables_at (data_of m) m.variables s)
-  reads-here s = record {
-    written = keeps-here s;
-    enumerators = hides-here s;
-    named = reads-mean (data_of m) (elements_at m s) (keeps-here s) m.variables s
-        (subst (λ xs. Finds (data_of m) (elements_at m s) xs s) (elements-named (data_of m) m.variables) (found-here s));
+  -- so it is where further names stand for values
+  pub keeps-at : (a : data_value.Assignment) → HidesNoEnumerator (data_of m) a → KeepsWrittenValues (data_of m) a
+  keeps-at a e = written_values_are_kept (data_of m) a hides.enumerators e
+
+  pub reads-at : (a : data_value.Assignment) → HidesNoEnumerator (data_of m) a → (s : State) → Finds (data_of m) a (map name_of (all_elements m)) s →
+      Means (data_of m) a (reads (data_of m) m.variables) (variables_at (data_of m) m.variables s)
+  reads-at a e s found = record {
+    written = keeps-at a e;
+    enumerators = e;
+    named = reads-mean (data_of m) a (keeps-at a e) m.variables s (subst (λ xs. Finds (data_of m) a xs s) (elements-named (data_of m) m.variables) found);
   }
 
+  pub means-at : (a : data_value.Assignment) → HidesNoEnumerator (data_of m) a → (s : State) → Finds (data_of m) a (map name_of (all_elements m)) s →
+      Means (data_of m) a (forms_of m) (functions_at m s)
+  means-at a e s found =
+      definitions_are_put_in (data_of m) a (reads (data_of m) m.variables) (variables_at (data_of m) m.variables s) (reads-at a e s found) m.definitions
+
+  pub reads-here : (s : State) → Means (data_of m) (elements_at m s) (reads (data_of m) m.variables) (variables_at (data_of m) m.variables s)
+  reads-here s = reads-at (elements_at m s) (hides-here s) s (found-here s)
+
   pub means-here : (s : State) → Means (data_of m) (elements_at m s) (forms_of m) (functions_at m s)
-  means-here s =
-      definitions_are_put_in (data_of m) (elements_at m s) (reads (data_of m) m.variables) (variables_at (data_of m) m.variables s) (reads-here s) m.definitions
+  means-here s = means-at (elements_at m s) (hides-here s) s (found-here s)
 
   pub written-settled : (s : Name) → AreSettled m (written_values (data_of m) s)
-  written-settled s = settled-by m (written_values (data_of m) s) (λ t. keeps-here t s ∙ sym (keeps-nowhere s))
+  written-settled s = settled-by m (written_values (data_of m) s) (λ a e. keeps-at a e s ∙ sym (keeps-nowhere s))
 
   pub put_in-here : (s : State) (ρ : TermScope) → ScopeIsSettled m ρ → (x : Term) →
       value (data_of m) (elements_at m s) (unfolded_term m ρ x) ≡ value_at m s (valued (data_of m) [] ρ) x
   put_in-here s ρ h x =
       put_in-value (data_of m) (elements_at m s) (forms_of m) (functions_at m s) (means-here s) x ρ ∙
-      ap (λ c. meaning (data_of m) (functions_at m s) c x) (scope-values m ρ h s)
+      ap (λ c. meaning (data_of m) (functions_at m s) c x) (scope-values m ρ h (elements_at m s) (hides-here s))
 
   -- ---- tuples of written values
 

@@ -1,14 +1,15 @@
 -- The steps of the flat model lead where those of the protocol do.
-use Rattle.std.proofs.Common.{◌≡◌, Bool, true, false, ◌&&◌, ◌||◌, cond, List, [], ◌∷◌, ◌++◌, map, flat_map, refl, sym, ap, ◌∙◌}
+use Rattle.std.proofs.Common.{◌≡◌, Bool, true, false, ◌&&◌, ◌||◌, cond, if◌then◌else◌, List, [], ◌∷◌, ◌++◌, map, flat_map, refl, sym, ap, ◌∙◌}
 use Rattle.std.specs.Prelude.{filter}
 use Rattle.std.specs.List.{list_any}
 use Rattle.std.proofs.Math.Path.{fun_ext}
 use Rattle.std.proofs.lemmas.List.Elements.{filter-append}
 use Rattle.std.proofs.lemmas.List.Folds.{flat_map-map}
 use Rattle.std.proofs.lemmas.Grind.{flat_map-append}
-use Rattle.pb_base_values.specs.Carrier.{Tuple}
+use Rattle.pb_base_values.specs.Carrier.{Tuple, tuples}
 use Rattle.pb_text_meaning.specs.Syntax.{Name, same_name, Variable, Term}
 use Rattle.pb_text_meaning.specs.Value as data_value
+use Rattle.pb_text_meaning.specs.Formula.{carriers_of}
 use Rattle.pb_model_meaning.specs.Syntax as flat
 use Rattle.pb_model_meaning.specs.Steps.{State}
 use Rattle.pb_model_meaning.specs.Steps as flat_steps
@@ -17,12 +18,14 @@ use Rattle.pb_protocol_meaning.specs.Syntax.{StateVariable, Step, StepSet, Proto
 use Rattle.pb_protocol_meaning.specs.Steps.{data_of, has_step, is_enabled, next_state, successors_by, successors}
 use Rattle.pb_protocol_unfolding.specs.Written.{written_values, written_tuples}
 use Rattle.pb_protocol_unfolding.specs.PutIn.{TermScope}
-use Rattle.pb_protocol_unfolding.specs.Unfolding.{elements_of, Instance, instances_of, instances, instance_name, unfolded_step, values_of, valued, named_steps, is_in_set, unfolded_set, unfolded}
+use Rattle.pb_protocol_unfolding.specs.Whole.{is_among, valued_in_set}
+use Rattle.pb_protocol_unfolding.specs.Unfolding.{elements_of, Instance, is_whole, whole_step, with_own, instances_of, instances, instance_name, unfolded_step, values_of, valued, named_steps, is_in_set, unfolded_set, unfolded}
 use Rattle.pb_protocol_unfolding.specs.Hygiene.{HidesNothing}
-use Rattle.pb_protocol_unfolding.specs.ModelLaws.{StepsAreUnfolded}
+use Rattle.pb_protocol_unfolding.specs.ModelLaws.{NamesNoWhole, StepsAreUnfolded}
 use Rattle.pb_protocol_folding.proofs.FoldedModels.{same-self}
 use Rattle.pb_protocol_unfolding.proofs.States.{same-not, AreSettled, written-settled, tuples-written}
 use Rattle.pb_protocol_unfolding.proofs.NextStates.{IndicesAreSettled, next-here, enabled-here}
+use Rattle.pb_protocol_unfolding.proofs.WholeSteps.{any-values, all-lead, none-leads, tuples-many}
 
 -- ---- lists
 
@@ -33,6 +36,10 @@ filter-flat_map p f (x ∷ xs) = filter-append p (f x) (flat_map f xs) ∙ ap (�
 flat_map-flat_map : {A B C : Type 0} (h : B → List C) (f : A → List B) (xs : List A) → flat_map h (flat_map f xs) ≡ flat_map (λ x. flat_map h (f x)) xs
 flat_map-flat_map h f [] = refl
 flat_map-flat_map h f (x ∷ xs) = flat_map-append h (f x) (flat_map f xs) ∙ ap (λ l. flat_map h (f x) ++ l) (flat_map-flat_map h f xs)
+
+append-nothing : {A : Type 0} (xs : List A) → (xs ++ []) ≡ xs
+append-nothing [] = refl
+append-nothing (x ∷ xs) = ap (λ l. x ∷ l) (append-nothing xs)
 
 -- ---- sets of steps
 
@@ -101,7 +108,7 @@ steps-in-set m hides p =
     filtered-steps m (is_named p (instances m)) p (instances m) (all-agree p (instances m) hides.steps)
 
 -- the steps of an unfolded set are the instances in the set
-no-filter : {A : Type 0} (xs : List A) → filter (λ (x : A). true) xs ≡ xs
+pub no-filter : {A : Type 0} (xs : List A) → filter (λ (x : A). true) xs ≡ xs
 no-filter [] = refl
 no-filter (x ∷ xs) = ap (λ l. x ∷ l) (no-filter xs)
 
@@ -115,7 +122,7 @@ steps-in-unfolded m hides ρ (StepSet.Union A B) = steps-in-set m hides (is_in_s
 
 -- ---- tuples of values
 
-abbrev AllSettled : Protocol → List (List Term) → Type 0
+abbrev pub AllSettled : Protocol → List (List Term) → Type 0
 AllSettled m [] = Unit {0}
 AllSettled m (ks ∷ rest) = AreSettled m ks × AllSettled m rest
 
@@ -139,7 +146,7 @@ module _ (m : Protocol) (hides : HidesNothing m) where
           both-settled (map (λ (ks : List Term). k ∷ ks) (written_tuples (data_of m) xs)) (flat_map (λ k. map (λ (ks : List Term). k ∷ ks) (written_tuples (data_of m) xs)) ks)
           (each k (h.0, tt) (written_tuples (data_of m) xs) r) (all ks h.1 r)
 
-  indices-settled : (ys : List StateVariable) → IndicesAreSettled m (flat_map (elements_of (data_of m)) ys)
+  pub indices-settled : (ys : List StateVariable) → IndicesAreSettled m (flat_map (elements_of (data_of m)) ys)
   indices-settled [] = tt
   indices-settled (y ∷ ys) = over (written_tuples (data_of m) y.indices) (tuples-settled y.indices) (indices-settled ys)
     where
@@ -161,49 +168,96 @@ module _ (m : Protocol) (hides : HidesNothing m) where
     leads i = flat_steps.successors_by (unfolded m) s (unfolded_step m i)
 
     abbrev flat_rest : Step → List (List Term) → List State
-    flat_rest a rest = flat_map leads (filter in_set (map (λ (ks : List Term). record { step = a; own = ks }) rest))
+    flat_rest a rest = flat_map leads (filter in_set (map (with_own a) rest))
 
     abbrev rest_in : Step → List (List Term) → List Tuple
     rest_in a rest = filter (λ (own : Tuple). has_step m c A a.name own && is_enabled m s a own) (map (values_of m) rest)
 
     by-values : (a : Step) (rest : List (List Term)) → AllSettled m rest →
-        flat_map leads (filter in_set (map (λ (ks : List Term). record { step = a; own = ks }) rest))
+        flat_map leads (filter in_set (map (with_own a) rest))
         ≡ map (next_state m s a) (filter (λ (own : Tuple). has_step m c A a.name own && is_enabled m s a own) (map (values_of m) rest))
     by-values a [] h = refl
     by-values a (ks ∷ rest) h = by (has_step m c A a.name (values_of m ks)) (by-values a rest h.1)
       where
         taken : (b : Bool) → (flat_rest a rest) ≡ map (next_state m s a) (rest_in a rest) →
-            map (flat_steps.next_state (unfolded m) s (unfolded_step m (record { step = a; own = ks }))) (cond b ([] ∷ []) []) ++ (flat_rest a rest)
+            map (flat_steps.next_state (unfolded m) s (unfolded_step m (with_own a ks))) (cond b ([] ∷ []) []) ++ (flat_rest a rest)
             ≡ map (next_state m s a) (cond b (values_of m ks ∷ (rest_in a rest)) (rest_in a rest))
         taken true e =
-            ap (λ t. t ∷ (flat_rest a rest)) (next-here m hides s (record { step = a; own = ks }) h.0 (indices-settled m.variables)) ∙
+            ap (λ t. t ∷ (flat_rest a rest)) (next-here m hides s a ks h.0 (indices-settled m.variables)) ∙
             ap (λ l. next_state m s a (values_of m ks) ∷ l) e
         taken false e = e
 
         by : (b : Bool) → (flat_rest a rest) ≡ map (next_state m s a) (rest_in a rest) →
             flat_map leads
-            (cond b (record { step = a; own = ks } ∷ filter in_set
-            (map (λ (ks : List Term). record { step = a; own = ks }) rest))
-            (filter in_set (map (λ (ks : List Term). record { step = a; own = ks }) rest)))
+            (cond b (with_own a ks ∷ filter in_set
+            (map (with_own a) rest))
+            (filter in_set (map (with_own a) rest)))
             ≡ map (next_state m s a) (cond (b && is_enabled m s a (values_of m ks)) (values_of m ks ∷ (rest_in a rest)) (rest_in a rest))
         by true e =
-            ap (λ b. map (flat_steps.next_state (unfolded m) s (unfolded_step m (record { step = a; own = ks }))) (cond b ([] ∷ []) []) ++ (flat_rest a rest))
-            (enabled-here m hides s (record { step = a; own = ks }) h.0) ∙
+            ap (λ b. map (flat_steps.next_state (unfolded m) s (unfolded_step m (with_own a ks))) (cond b ([] ∷ []) []) ++ (flat_rest a rest))
+            (enabled-here m hides s a ks h.0) ∙
             taken (is_enabled m s a (values_of m ks)) e
         by false e = e
 
-    by-step : (a : Step) → flat_map leads (filter in_set (instances_of (data_of m) a)) ≡ successors_by m c A s a
-    by-step a =
+    -- a step that stays whole is in the set as a whole
+    by-whole : (a : Step) → is_whole m a ≡ true → is_among (valued_in_set A) a.name ≡ false → flat_map leads (filter in_set (whole_step a ∷ [])) ≡ successors_by m c A s a
+    by-whole a whole unnamed = by (has_step m c A a.name []) refl
+      where
+        by : (b : Bool) → has_step m c A a.name [] ≡ b → flat_map leads (cond b (whole_step a ∷ []) []) ≡ successors_by m c A s a
+        by true e =
+            append-nothing (leads (whole_step a)) ∙
+            all-lead m hides s a whole (indices-settled m.variables) (has_step m c A a.name) (λ own. any-values m c A a.name unnamed own [] ∙ e)
+            (tuples (carriers_of (data_of m) a.variables)) (tuples-many (data_of m) a.variables)
+        by false e =
+            none-leads m hides s a whole (indices-settled m.variables) (has_step m c A a.name) (λ own. any-values m c A a.name unnamed own [] ∙ e)
+            (tuples (carriers_of (data_of m) a.variables))
+
+    by-tuples : (a : Step) → flat_map leads (filter in_set (map (with_own a) (written_tuples (data_of m) a.variables))) ≡ successors_by m c A s a
+    by-tuples a =
         by-values a (written_tuples (data_of m) a.variables) (tuples-settled a.variables) ∙
         ap (λ ts. map (next_state m s a) (filter (λ (own : Tuple). has_step m c A a.name own && is_enabled m s a own) ts)) (sym (tuples-written m hides a.variables))
 
-    pub successors-here : flat_steps.successors (unfolded m) (unfolded_set m ρ A) s ≡ successors m (valued (data_of m) [] ρ) A s
-    successors-here =
+    pub by-step : NamesNoWhole m (valued_in_set A) → (a : Step) → flat_map leads (filter in_set (instances_of m a)) ≡ successors_by m c A s a
+    by-step names a = by (is_whole m a) refl
+      where
+        by : (b : Bool) → is_whole m a ≡ b →
+            flat_map leads (filter in_set (if b then whole_step a ∷ [] else map (with_own a) (written_tuples (data_of m) a.variables))) ≡ successors_by m c A s a
+        by true e = by-whole a e (names a e)
+        by false e = by-tuples a
+
+    pub successors-here : NamesNoWhole m (valued_in_set A) → flat_steps.successors (unfolded m) (unfolded_set m ρ A) s ≡ successors m (valued (data_of m) [] ρ) A s
+    successors-here names =
         ap (flat_map (flat_steps.successors_by (unfolded m) s)) (steps-in-unfolded m hides ρ A) ∙
         (flat_map-map (flat_steps.successors_by (unfolded m) s) (unfolded_step m) (filter in_set (instances m)) ∙
-        (ap (flat_map leads) (filter-flat_map in_set (instances_of (data_of m)) m.steps) ∙
-        (flat_map-flat_map leads (λ a. filter in_set (instances_of (data_of m) a)) m.steps ∙
-        ap (λ (f : Step → List State). flat_map f m.steps) (fun_ext by-step))))
+        (ap (flat_map leads) (filter-flat_map in_set (instances_of m) m.steps) ∙
+        (flat_map-flat_map leads (λ a. filter in_set (instances_of m a)) m.steps ∙
+        ap (λ (f : Step → List State). flat_map f m.steps) (fun_ext (by-step names)))))
+
+-- ---- where the instances of one step lead
+
+pub step-leads : (m : Protocol) (hides : HidesNothing m) (s : State) (a : Step) →
+    flat_map (λ (i : Instance). flat_steps.successors_by (unfolded m) s (unfolded_step m i)) (instances_of m a) ≡ successors_by m [] StepSet.All s a
+step-leads m hides s a =
+    sym (ap (flat_map (λ (i : Instance). flat_steps.successors_by (unfolded m) s (unfolded_step m i))) (no-filter (instances_of m a))) ∙
+    by-step m hides [] StepSet.All s (λ b whole. refl) a
+
+-- ---- where one instance leads
+
+-- a step that stays whole leads where the protocol's does, if a set has it with all values
+pub whole-leads : (m : Protocol) (hides : HidesNothing m) (A : StepSet) (s : State) (a : Step) → is_whole m a ≡ true → ((own : Tuple) → has_step m [] A a.name own ≡ true) →
+    flat_steps.successors_by (unfolded m) s (unfolded_step m (whole_step a)) ≡ successors_by m [] A s a
+whole-leads m hides A s a whole all =
+    all-lead m hides s a whole (indices-settled m hides m.variables) (has_step m [] A a.name) all (tuples (carriers_of (data_of m) a.variables)) (tuples-many (data_of m) a.variables)
+
+-- one with written values leads to the state after them, where it is enabled
+pub written-leads : (m : Protocol) (hides : HidesNothing m) (s : State) (a : Step) (ks : List Term) → AreSettled m ks →
+    flat_steps.successors_by (unfolded m) s (unfolded_step m (with_own a ks)) ≡ (if is_enabled m s a (values_of m ks) then next_state m s a (values_of m ks) ∷ [] else [])
+written-leads m hides s a ks settled =
+    ap (λ b. map (flat_steps.next_state (unfolded m) s (unfolded_step m (with_own a ks))) (cond b ([] ∷ []) [])) (enabled-here m hides s a ks settled) ∙ by (is_enabled m s a (values_of m ks))
+  where
+    by : (b : Bool) → map (flat_steps.next_state (unfolded m) s (unfolded_step m (with_own a ks))) (cond b ([] ∷ []) []) ≡ (if b then next_state m s a (values_of m ks) ∷ [] else [])
+    by true = ap (λ t. t ∷ []) (next-here m hides s a ks settled (indices-settled m hides m.variables))
+    by false = refl
 
 pub steps_are_unfolded : StepsAreUnfolded
-steps_are_unfolded m hides A s = successors-here m hides [] A s
+steps_are_unfolded m hides A names s = successors-here m hides [] A s names

@@ -1,10 +1,9 @@
 -- Written values have their values.
 use Rattle.std.proofs.Common.{◌≡◌, ℕ, zero, suc, Bool, true, false, true≢false, if◌then◌else◌, List, [], ◌∷◌, ◌++◌, map, length, refl, sym, ap, ◌∙◌, subst, arith}
-use Rattle.std.specs.Prelude.{ℤ, pos, negsuc, ◌+ℤ◌, ◌-ℤ◌, nat_eq, Option, Some, None, unwrap_or, codes}
+use Rattle.std.specs.Prelude.{ℤ, pos, ◌+ℤ◌, ◌-ℤ◌, nat_eq, Option, Some, None, unwrap_or, codes}
 use Rattle.std.proofs.lemmas.Int.{ints}
 use Rattle.std.specs.Ordering.{int_eq}
 use Rattle.std.proofs.lemmas.Bool.Decides.{Decides-int_eq, Decides-eqb}
-use Rattle.std.proofs.lemmas.Slice.Eq.{bytes_eq-Decides}
 use Rattle.pb_base_values.specs.Carrier.{Value, Carrier, numbers_from, at_least_none, interval}
 use Rattle.pb_text_meaning.specs.Syntax.{Name, same_name, Term, Enumerator, Sort, Struct, Alias, SortDeclaration, Range, Spec}
 use Rattle.pb_text_meaning.specs.Sorts.{carrier_of, carrier_by, carrier_within, declared, range_of, place_from, or_else, place_within, place_in}

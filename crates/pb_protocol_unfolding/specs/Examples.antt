@@ -12,7 +12,8 @@ use Rattle.pb_protocol_meaning.specs.Examples.{modified, owner, negated, round_o
 use Rattle.pb_protocol_meaning.specs.Examples.{votes_counted, reset}
 use Rattle.pb_protocol_unfolding.specs.Written.{element_of}
 use Rattle.pb_protocol_unfolding.specs.PutIn.{choice, one_if}
-use Rattle.pb_protocol_unfolding.specs.Unfolding.{Instance, unfolded_term, unfolded_step}
+use Rattle.pb_protocol_unfolding.specs.Unfolding.{Instance, with_own, unfolded_term}
+use Rattle.pb_protocol_unfolding.specs.Unfolding.{unfolded_step}
 use Rattle.pb_protocol_unfolding.specs.ModelLaws as model
 use Rattle.pb_protocol_unfolding.specs.ModelLaws.{flat_model}
 
@@ -50,10 +51,10 @@ flat_owners_line =
 
 -- read with c1, grant with c1 and c1
 abbrev pub read_c1 : Instance
-read_c1 = record { step = read; own = Term.Named c1 ∷ [] }
+read_c1 = with_own read (Term.Named c1 ∷ [])
 
 abbrev pub grant_c1_c1 : Instance
-grant_c1_c1 = record { step = grant; own = Term.Named c1 ∷ Term.Named c1 ∷ [] }
+grant_c1_c1 = with_own grant (Term.Named c1 ∷ Term.Named c1 ∷ [])
 
 -- the flat model, its steps, formulas and terms
 abbrev pub flat_caches : flat.Model
@@ -113,7 +114,7 @@ flat_reset =
     ∷ becomes round flat_votes ∷ [])
 
 abbrev pub reset_instance : Instance
-reset_instance = record { step = reset; own = [] }
+reset_instance = with_own reset []
 
 -- the votes of the protocol, and its step, in the flat model
 abbrev pub votes_put_in : Term

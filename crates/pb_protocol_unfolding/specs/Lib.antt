@@ -1,5 +1,6 @@
 pub mod Written
 pub mod PutIn
+pub mod Whole
 pub mod Unfolding
 pub mod Hygiene
 pub mod TermLaws

@@ -1,10 +1,9 @@
 -- The flat model does what the protocol does.
-use Rattle.std.specs.Prelude.{◌≡◌, List, []}
+use Rattle.std.specs.Prelude.{◌≡◌, Bool, true, false, List, [], Contains}
 use Rattle.std.specs.List.{list_any, list_all}
-use Rattle.std.specs.Prelude.{Bool}
 use Rattle.pb_text_tree.specs.declared.operator.Quantifier.{Quantifier}
 use Rattle.pb_text_tree.specs.declared.operator.Quantifier.TheVariants.{Forall, Exists}
-use Rattle.pb_text_meaning.specs.Syntax.{Variable}
+use Rattle.pb_text_meaning.specs.Syntax.{Name, Variable}
 use Rattle.pb_text_meaning.specs.Meaning.{answer}
 use Rattle.pb_model_meaning.specs.Syntax as flat
 use Rattle.pb_model_meaning.specs.Steps as flat_steps
@@ -14,19 +13,33 @@ use Rattle.pb_model_meaning.specs.Satisfaction.{Valuation}
 use Rattle.pb_model_translation.specs.Names.{translation}
 use Rattle.pb_model_translation.specs.Apart.{HasNamesApart}
 use Rattle.pb_protocol_folding.specs.FoldedModels.{folded_model, folded_property_formula}
-use Rattle.pb_protocol_meaning.specs.Syntax.{StepSet, Formula, Protocol}
+use Rattle.pb_protocol_meaning.specs.Syntax.{Step, StepSet, Formula, Property, Protocol}
 use Rattle.pb_protocol_meaning.specs.Steps.{data_of, initial_state, is_state, successors}
 use Rattle.pb_protocol_meaning.specs.Satisfaction.{satisfying, satisfies}
 use Rattle.pb_protocol_unfolding.specs.PutIn.{TermScope, copies}
-use Rattle.pb_protocol_unfolding.specs.Unfolding.{unfolded_set, unfolded_formula, unfolded}
+use Rattle.pb_protocol_unfolding.specs.Whole.{is_among, valued_in, valued_in_set}
+use Rattle.pb_protocol_unfolding.specs.Unfolding.{is_whole, unfolded_set, unfolded_formula}
+use Rattle.pb_protocol_unfolding.specs.Unfolding.{unfolded}
 use Rattle.pb_protocol_unfolding.specs.Hygiene.{HidesNothing}
+
+-- ---- steps that stay whole
+
+-- none of the steps of these names stays whole
+abbrev pub NamesNoWhole : Protocol → List Name → Type 0
+NamesNoWhole m names = (a : Step) → is_whole m a ≡ true → is_among names a.name ≡ false
+
+-- so it is with those that a property names by values
+abbrev pub PropertiesNameNoWhole : Type 0
+PropertiesNameNoWhole =
+    (m : Protocol) (p : Property) → Contains m.properties p → NamesNoWhole m (valued_in p.formula)
 
 -- ---- the unfolded model
 
 -- its steps lead where those of the protocol do
 abbrev pub StepsAreUnfolded : Type 0
 StepsAreUnfolded =
-    (m : Protocol) → HidesNothing m → (A : StepSet) (s : State) →
+    (m : Protocol) → HidesNothing m → (A : StepSet) → NamesNoWhole m (valued_in_set A) →
+    (s : State) →
     flat_steps.successors (unfolded m) (unfolded_set m [] A) s ≡ successors m [] A s
 
 -- all, or some
@@ -46,7 +59,8 @@ QuantifiedFormulasAreCopies =
 -- its formulas are satisfied where those of the protocol are
 abbrev pub FormulasAreUnfolded : Type 0
 FormulasAreUnfolded =
-    (m : Protocol) → HidesNothing m → (V : Valuation) (f : Formula) (s : State) →
+    (m : Protocol) → HidesNothing m → (V : Valuation) (f : Formula) →
+    NamesNoWhole m (valued_in f) → (s : State) →
     flat_satisfaction.satisfying (unfolded m) V (unfolded_formula m [] f) s
     ≡ satisfying m V [] f s
 
@@ -56,7 +70,7 @@ ModelsAreUnfolded =
     (m : Protocol) → HidesNothing m →
     (flat_steps.initial_state (unfolded m) ≡ initial_state m) ×
     ((s : State) → flat_steps.is_state (unfolded m) s ≡ is_state m s) ×
-    ((f : Formula) →
+    ((f : Formula) → NamesNoWhole m (valued_in f) →
     flat_satisfaction.satisfies (unfolded m) (unfolded_formula m [] f) ≡ satisfies m f)
 
 -- ---- the flat model: the unfolded one, folded
@@ -71,7 +85,7 @@ flat_formula m f = folded_property_formula (unfolded m) (unfolded_formula m [] f
 -- it satisfies what the protocol does
 abbrev pub FlatModelsSatisfyTheSame : Type 0
 FlatModelsSatisfyTheSame =
-    (m : Protocol) → HidesNothing m → (f : Formula) →
+    (m : Protocol) → HidesNothing m → (f : Formula) → NamesNoWhole m (valued_in f) →
     flat_satisfaction.satisfies (flat_model m) (flat_formula m f) ≡ satisfies m f
 
 -- it begins where the protocol does, has the same states, and its steps lead where those of the
@@ -91,5 +105,5 @@ FlatNamesAreApart = (m : Protocol) → HidesNothing m → HasNamesApart (flat_mo
 -- and the text to which it is translated has the answer
 abbrev pub FlatTranslationsHaveTheAnswer : Type 0
 FlatTranslationsHaveTheAnswer =
-    (m : Protocol) → HidesNothing m → (f : Formula) →
+    (m : Protocol) → HidesNothing m → (f : Formula) → NamesNoWhole m (valued_in f) →
     answer (translation (flat_model m) (flat_formula m f)) ≡ satisfies m f

@@ -1,13 +1,14 @@
 -- The flat model: a variable for each element, a step for each tuple of values of its own
--- variables, and formulas without quantifiers.
-use Rattle.std.specs.Prelude.{Bool, true, false, if◌then◌else◌, List, [], ◌∷◌, ◌++◌}
-use Rattle.std.specs.Prelude.{map, filter, flat_map}
+-- variables, unless these are too many and it stays whole, and formulas without quantifiers.
+use Rattle.std.specs.Prelude.{ℕ, nat_lt, Bool, true, false, ◌&&◌, if◌then◌else◌, List, [], ◌∷◌}
+use Rattle.std.specs.Prelude.{◌++◌, map, filter, flat_map, length}
 use Rattle.pb_text_tree.specs.declared.operator.Quantifier.{Quantifier}
 use Rattle.pb_text_tree.specs.declared.operator.Quantifier.TheVariants.{Forall, Exists}
 use Rattle.pb_base_values.specs.Carrier.{Tuple}
 use Rattle.pb_text_meaning.specs.Syntax.{Name, same_name, Variable, Operator, Term, Terms, Spec}
 use Rattle.pb_text_meaning.specs.Value.{Assignment, value}
 use Rattle.pb_model_meaning.specs.Syntax as flat
+use Rattle.pb_protocol_folding.specs.Names.{enumerators_in}
 use Rattle.pb_protocol_meaning.specs.Syntax.{StateVariable, Step, StepSet, Formula}
 use Rattle.pb_protocol_meaning.specs.Syntax.{Property, Protocol}
 use Rattle.pb_protocol_meaning.specs.Syntax as protocol
@@ -15,6 +16,7 @@ use Rattle.pb_protocol_meaning.specs.Steps.{data_of, has_step}
 use Rattle.pb_protocol_unfolding.specs.Written.{written_tuples, element_of}
 use Rattle.pb_protocol_unfolding.specs.PutIn.{TermScope, standing, Forms, no_forms, copies, put_in}
 use Rattle.pb_protocol_unfolding.specs.PutIn.{all_put_in, choice, reads, with_definitions}
+use Rattle.pb_protocol_unfolding.specs.Whole.{stays_whole, valued_by}
 
 -- ---- state variables
 
@@ -103,30 +105,68 @@ unfolded_assignment m ρ assignments e = record {
   term = term_after (data_of m) (forms_of m) ρ assignments e (Term.Named (name_of e));
 }
 
--- a step with a written value for each of its own variables
+-- the names that the own variables of a step that stays whole may not have
+abbrev pub flat_names : Protocol → List Name
+flat_names m = map name_of (all_elements m) ++ enumerators_in m.sorts
+
+-- how many steps there may be, over all values of their own variables
+abbrev pub most_written : ℕ
+most_written = 8192
+
+-- whether there are more
+abbrev pub has_many_steps : Protocol → Bool
+has_many_steps m =
+    nat_lt most_written
+    (length (flat_map (λ (a : Step). written_tuples (data_of m) a.variables) m.steps))
+
+-- whether a step stays whole, with its own variables: where there are too many
+abbrev pub is_whole : Protocol → Step → Bool
+is_whole m a = has_many_steps m && stays_whole (flat_names m) (valued_by m.properties) a
+
+-- a step that stays whole, or one with a written value for each of its own variables
 pub record Instance : Type 0 where
   pub step : Step
+  pub whole : Bool
   pub own : List Term
 
-abbrev pub instances_of : Spec → Step → List Instance
-instances_of spec a =
-    map (λ (ks : List Term). record { step = a; own = ks }) (written_tuples spec a.variables)
+abbrev pub whole_step : Step → Instance
+whole_step a = record { step = a; whole = true; own = [] }
+
+abbrev pub with_own : Step → List Term → Instance
+with_own a ks = record { step = a; whole = false; own = ks }
+
+abbrev pub instances_of : Protocol → Step → List Instance
+instances_of m a =
+    if is_whole m a then whole_step a ∷ []
+    else map (with_own a) (written_tuples (data_of m) a.variables)
 
 abbrev pub instances : Protocol → List Instance
-instances m = flat_map (instances_of (data_of m)) m.steps
+instances m = flat_map (instances_of m) m.steps
 
 abbrev pub instance_name : Instance → Name
 instance_name i = element_of i.step.name i.own
 
+-- what a step's own variables stand for: in one that stays whole for themselves
+abbrev pub own_terms : Bool → List Variable → List Term → List Term
+own_terms true xs ks = map (λ (x : Variable). Term.Named x.name) xs
+own_terms false xs ks = ks
+
+-- and which of them it keeps
+abbrev pub own_left : Bool → List Variable → List Variable
+own_left true xs = xs
+own_left false xs = []
+
+abbrev pub own_scope : Instance → TermScope
+own_scope i = written i.step.variables (own_terms i.whole i.step.variables i.own)
+
 abbrev pub unfolded_step : Protocol → Instance → flat.Step
-unfolded_step m i =
-    let ρ = written i.step.variables i.own in
-    record {
-      name = instance_name i;
-      variables = [];
-      guard = unfolded_term m ρ i.step.guard;
-      assignments = map (unfolded_assignment m ρ i.step.assignments) (all_elements m);
-    }
+unfolded_step m i = record {
+  name = instance_name i;
+  variables = own_left i.whole i.step.variables;
+  guard = unfolded_term m (own_scope i) i.step.guard;
+  assignments =
+      map (unfolded_assignment m (own_scope i) i.step.assignments) (all_elements m);
+}
 
 -- ---- sets of steps
 

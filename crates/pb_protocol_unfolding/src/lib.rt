@@ -1,6 +1,6 @@
 //! From a protocol to the flat model that is translated, with a variable for each element of an
-//! array, a step for each tuple of values of its own variables and no quantifier: definitions, in
-//! `specs/`, and laws.
+//! array, a step for each tuple of values of its own variables, unless it stays whole, and no
+//! quantifier: definitions, in `specs/`, and laws.
 #![tactic(auto)]
 
 ghost use Rattle.std.specs.Prelude.{◌≡◌, true, codes};
@@ -12,6 +12,7 @@ ghost use Rattle.pb_protocol_unfolding.specs.TermLaws.{WrittenValuesAreKept, Ter
 ghost use Rattle.pb_protocol_unfolding.specs.TermLaws.{DefinitionsArePutIn, ElementsAreRead};
 ghost use Rattle.pb_protocol_unfolding.specs.TermLaws.{ElementsAreAssigned};
 ghost use Rattle.pb_protocol_unfolding.specs.ModelLaws.{StepsAreUnfolded, FormulasAreUnfolded};
+ghost use Rattle.pb_protocol_unfolding.specs.ModelLaws.{PropertiesNameNoWhole};
 ghost use Rattle.pb_protocol_unfolding.specs.ModelLaws.{QuantifiedFormulasAreCopies, ModelsAreUnfolded};
 ghost use Rattle.pb_protocol_unfolding.specs.ModelLaws.{FlatModelsSatisfyTheSame, FlatModelsGoTheSame};
 ghost use Rattle.pb_protocol_unfolding.specs.ModelLaws.{FlatNamesAreApart, FlatTranslationsHaveTheAnswer};
@@ -49,6 +50,11 @@ pub fn elements_are_assigned()
 {}
 
 // ---- models
+
+/// No property names the steps by values that stay whole.
+pub fn properties_name_no_whole()
+    ensures { PropertiesNameNoWhole }
+{}
 
 /// The steps of the unfolded model lead where those of the protocol do.
 pub fn steps_are_unfolded()

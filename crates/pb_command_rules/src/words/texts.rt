@@ -275,9 +275,10 @@ shorten it\n\
 --reached (the equation with which they are too many): --reached, or narrow\n  \
 ranges\n\
 In a model also: more than 1,024 assignments in a step; written out, more than\n  \
-8,192 steps or 64 state variables, by their elements; of a property's text,\n  \
-more than 64 equations or 2^62 instances; more than 2^62 states. Place: the\n  \
-step's, the variable's name; the property's name; init\n\
+8,192 steps, of which one that stays whole counts as one, or 64 state\n  \
+variables, by their elements; of a property's text, more than 64 equations or\n  \
+2^62 instances; more than 2^62 states. Place: the step's, the variable's name;\n  \
+the property's name; init\n\
 What to do: see \"Limits\" in docs/MANUAL.md\n\
 $ printf '%%range Int 0 4194304\\npbes nu X(n: Int) = X(n); init X(0);' | pbsolve solve\n\
 T12 line 2 column 9\n";

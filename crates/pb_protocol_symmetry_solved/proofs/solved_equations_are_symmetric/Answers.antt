@@ -10,6 +10,6 @@ returns c =
     record {
       flat = models;
       equations = equations;
-      packed = packed-equations models c.packed_models_are_symmetric.ensures.properties c.packed_models_have_the_answer.ensures.names translations;
+      packed = packed-equations c.properties_name_no_whole.ensures models c.packed_models_are_symmetric.ensures.properties c.packed_models_have_the_answer.ensures.names translations;
       tested = tested-equations equations c.tested_protocols_are_symmetric.ensures c.tested_formulas_have_kinds.ensures;
     }

@@ -3,7 +3,6 @@ use Rattle.pb_protocol_tree.specs.declared.protocol.Protocol.{Protocol}
 use Rattle.pb_protocol_tree.specs.declared.step.Step.{Step}
 use Rattle.pb_protocol_tree.specs.Form.{step_form}
 use Rattle.pb_protocol_meaning.specs.Erase.{erased_step}
-use Rattle.pb_protocol_meaning.specs.Steps.{data_of}
 use Rattle.pb_protocol_unfolding.specs.Unfolding.{instances_of}
 use Rattle.pb_protocol_unfolder_steps.specs.Unfolder.{protocol_in}
 use Rattle.pb_protocol_unfolder.specs.Parts.{OfManyTuples}
@@ -31,8 +30,8 @@ returns-in_err-count-clause-refused c =
     let m = protocol_in c.args.unfolder.now in
     let a = c.step-item.result in
     let own = own_instances m a in
-    let few : length own ≤ length (flat_map (instances_of (data_of m)) m.steps) =
-    subst (λ (ss : List Step). length own ≤ length (flat_map (instances_of (data_of m)) (map erased_step (map step_form ss))))
+    let few : length own ≤ length (flat_map (instances_of m) m.steps) =
+    subst (λ (ss : List Step). length own ≤ length (flat_map (instances_of m) (map erased_step (map step_form ss))))
     (c.deref-step-items.ensures.value ∙ ap (λ (p : Protocol). p.steps.items) c.protocol.ensures)
     (no-more-than-all m c.deref-step-items.result.now c.loop-step.step-index a c.loop-step-test.true c.step-item.is) in
     refused c.from_residual.result c.in_err-count.field-0.0 (OfManyTuples a.name.place own) (λ f. ⊥)

@@ -1,5 +1,6 @@
 use Rattle.std.proofs.Common.{◌≡◌, ◌≤◌, ◌∙◌, inl, ap, ap₂, arith, length, subst, sym, List, map}
 use Rattle.std.specs.Prelude.{filter}
+use Rattle.pb_base.specs.OrMemory.{IfRefused}
 use Rattle.std.proofs.lemmas.List.{length-map}
 use Rattle.pb_text_tree.specs.declared.sort.SortDeclaration.{SortDeclaration}
 use Rattle.pb_text_meaning.specs.Syntax.{Name}
@@ -40,20 +41,21 @@ elements c =
 
 instances : (c : In_ok-instances) → AreInstancesOf (protocol_form c.args.protocol.now) c.in_ok-instances.instances.items
 instances c =
-    ok-raised (λ v. AreInstancesOf (protocol_form c.args.protocol.now) v.items) c.instances.result c.in_ok-instances.instances c.in_ok-instances.ensures.cases c.instances.ensures.instances
+    subst (λ (p : Protocol). AreInstancesOf (protocol_form p) c.in_ok-instances.instances.items) c.in_ok-whole.ensures
+    (ok-raised (λ v. AreInstancesOf (protocol_form c.in_ok-whole.whole) v.items) c.instances.result c.in_ok-instances.instances c.in_ok-instances.ensures.cases c.instances.ensures.instances)
 
-kept : (c : In_ok-steps) → c.in_ok-steps.field-0.kept.items ≡ map (is_kept (protocol_in c.in_ok-unfolder.unfolder)) (map instance_said c.deref-7.result.now)
+kept : (c : In_ok-steps) → c.in_ok-steps.field-0.kept.items ≡ map (is_kept (protocol_in c.in_ok-unfolder.unfolder)) (map instance_said c.deref-8.result.now)
 kept c =
-    ok-raised (λ (v : UnfoldedSteps). v.kept.items ≡ map (is_kept (protocol_in c.in_ok-unfolder.unfolder)) (map instance_said c.deref-7.result.now)) c.unfold_steps.result
+    ok-raised (λ (v : UnfoldedSteps). v.kept.items ≡ map (is_kept (protocol_in c.in_ok-unfolder.unfolder)) (map instance_said c.deref-8.result.now)) c.unfold_steps.result
     c.in_ok-steps.field-0 c.in_ok-steps.ensures.cases c.unfold_steps.ensures.kept
 
 -- the flat steps of these, by the protocol
 abbrev flat_steps : Protocol → List declared.Instance → List flat.Step
 flat_steps p is = folded_steps (data_of (protocol_of p)) (map (definitions.unfolded_step (protocol_of p)) (map instance_said is))
 
-steps : (c : In_ok-steps) → map step_said c.in_ok-steps.field-0.steps.items ≡ flat_steps c.in_ok-unfolder.unfolder c.deref-7.result.now
+steps : (c : In_ok-steps) → map step_said c.in_ok-steps.field-0.steps.items ≡ flat_steps c.in_ok-unfolder.unfolder c.deref-8.result.now
 steps c =
-    ok-raised (λ (v : UnfoldedSteps). map step_said v.steps.items ≡ flat_steps c.in_ok-unfolder.unfolder c.deref-7.result.now) c.unfold_steps.result
+    ok-raised (λ (v : UnfoldedSteps). map step_said v.steps.items ≡ flat_steps c.in_ok-unfolder.unfolder c.deref-8.result.now) c.unfold_steps.result
     c.in_ok-steps.field-0 c.in_ok-steps.ensures.cases c.unfold_steps.ensures.steps
 
 places : (c : In_ok-steps) → map step_place c.in_ok-steps.field-0.steps.items ≡ places_from 0 (length c.in_ok-steps.field-0.steps.items)
@@ -63,29 +65,29 @@ places c =
 
 -- the instances that are left are those that are kept
 left : (c : In_ok-left) (of : AreInstancesOf (protocol_form c.args.protocol.now) c.in_ok-instances.instances.items)
-    → (let m = protocol_in c.in_ok-unfolder.unfolder in c.in_ok-steps.field-0.kept.items ≡ map (is_kept m) (map instance_said c.deref-7.result.now))
+    → (let m = protocol_in c.in_ok-unfolder.unfolder in c.in_ok-steps.field-0.kept.items ≡ map (is_kept m) (map instance_said c.deref-8.result.now))
     → let m = protocol_in c.in_ok-unfolder.unfolder in map instance_said c.in_ok-left.left.items ≡ filter (is_kept m) (definitions.instances m)
 left c of are =
     kept-instances c.in_ok-unfolder.unfolder c.args.protocol.now c.in_ok-instances.instances.items c.in_ok-left.left.items c.in_ok-steps.field-0.kept.items
-    c.deref-8.result.now c.deref-9.result.now c.deref-7.result.now (ap protocol_of c.in_ok-unfolder.ensures) c.deref-8.ensures.value c.deref-9.ensures.value c.deref-7.ensures.value
+    c.deref-9.result.now c.deref-10.result.now c.deref-8.result.now (ap protocol_of c.in_ok-unfolder.ensures) c.deref-9.ensures.value c.deref-10.ensures.value c.deref-8.ensures.value
     of.all are c.in_ok-left.ensures.said
 
 pub new-requires : goal.new-requires
 new-requires c =
-    subst (AreElementsOf (protocol_form c.args.protocol.now)) (sym c.deref-6.ensures.value) (elements (goal.at.new-requires c).In_ok-elements)
+    subst (AreElementsOf (protocol_form c.args.protocol.now)) (sym c.deref-7.ensures.value) (elements (goal.at.new-requires c).In_ok-elements)
 
 pub unfold_steps-requires : goal.unfold_steps-requires
 unfold_steps-requires c =
-    subst (λ (xs : List declared.Instance). length xs ≤ MAX_WRITTEN_STEPS) (sym c.deref-7.ensures.value) (instances (goal.at.unfold_steps-requires c).In_ok-instances).few
+    subst (λ (xs : List declared.Instance). length xs ≤ MAX_WRITTEN_STEPS) (sym c.deref-8.ensures.value) (instances (goal.at.unfold_steps-requires c).In_ok-instances).few
 
 pub flat_model-requires-clause-left : goal.flat_model-requires-clause-left
 flat_model-requires-clause-left c =
     let at = goal.at.flat_model-requires-clause-left c in
     let of = instances at.In_ok-instances in
     record {
-      steps = ap (λ (xs : List declared.Instance). map instance_said xs) c.deref-12.ensures.value ∙ left at.In_ok-left of (kept at.In_ok-steps);
-      apart = apart-instances c.in_ok-unfolder.unfolder c.args.protocol.now c.in_ok-instances.instances.items c.deref-3.result.now (ap protocol_of c.in_ok-unfolder.ensures)
-          c.deref-3.ensures.value of.all c.in_ok-check_instances.ensures.distinct;
+      steps = ap (λ (xs : List declared.Instance). map instance_said xs) c.deref-13.ensures.value ∙ left at.In_ok-left of (kept at.In_ok-steps);
+      apart = apart-instances c.in_ok-unfolder.unfolder c.args.protocol.now c.in_ok-instances.instances.items c.deref-4.result.now (ap protocol_of c.in_ok-unfolder.ensures)
+          c.deref-4.ensures.value of.all c.in_ok-check_instances.ensures.distinct;
     }
 
 pub flat_model-requires-clause-protocol : goal.flat_model-requires-clause-protocol
@@ -97,7 +99,7 @@ flat_model-requires-clause-steps c =
     let m = protocol_in c.in_ok-unfolder.unfolder in
     steps at.In_ok-steps
     ∙ ap (λ (xs : List definitions.Instance). folded_steps (data_of m) (map (definitions.unfolded_step m) xs))
-    (ap (map instance_said) c.deref-7.ensures.value ∙ (instances at.In_ok-instances).all ∙ ap (λ (p : Protocol). definitions.instances (protocol_of p)) (sym c.in_ok-unfolder.ensures))
+    (ap (map instance_said) c.deref-8.ensures.value ∙ (instances at.In_ok-instances).all ∙ ap (λ (p : Protocol). definitions.instances (protocol_of p)) (sym c.in_ok-unfolder.ensures))
 
 pub returns-clause-model : goal.returns-clause-model
 returns-clause-model c = c.in_ok-model.ensures.model ∙ ap (λ (p : Protocol). folded_model (definitions.unfolded (protocol_of p))) c.in_ok-unfolder.ensures
@@ -105,13 +107,13 @@ returns-clause-model c = c.in_ok-model.ensures.model ∙ ap (λ (p : Protocol). 
 pub returns-clause-told_variables : goal.returns-clause-told_variables
 returns-clause-told_variables c =
     c.in_ok-variables.ensures
-    ∙ ap (map told_element) (ap (λ (es : List declared_element.Element). map flat_element es) c.deref-10.ensures.value ∙ (elements (goal.at.returns-clause-told_variables c).In_ok-elements).all)
+    ∙ ap (map told_element) (ap (λ (es : List declared_element.Element). map flat_element es) c.deref-11.ensures.value ∙ (elements (goal.at.returns-clause-told_variables c).In_ok-elements).all)
 
 pub returns-clause-told_steps : goal.returns-clause-told_steps
 returns-clause-told_steps c =
     let at = goal.at.returns-clause-told_steps c in
     c.in_ok-origins.ensures.names
-    ∙ ap (map told_instance) (ap (λ (xs : List declared.Instance). map instance_said xs) c.deref-11.ensures.value ∙ left at.In_ok-left (instances at.In_ok-instances) (kept at.In_ok-steps))
+    ∙ ap (map told_instance) (ap (λ (xs : List declared.Instance). map instance_said xs) c.deref-12.ensures.value ∙ left at.In_ok-left (instances at.In_ok-instances) (kept at.In_ok-steps))
     ∙ ap (λ (p : Protocol). told_steps (protocol_of p)) c.in_ok-unfolder.ensures
 
 pub returns-clause-told_places : goal.returns-clause-told_places
@@ -119,23 +121,23 @@ returns-clause-told_places c =
     let at = goal.at.returns-clause-told_places c in
     let of = instances at.In_ok-instances in
     let u = c.in_ok-unfolder.unfolder in
-    let all : map instance_said c.deref-7.result.now ≡ definitions.instances (protocol_of c.args.protocol.now) = ap (map instance_said) c.deref-7.ensures.value ∙ of.all in
+    let all : map instance_said c.deref-8.result.now ≡ definitions.instances (protocol_of c.args.protocol.now) = ap (map instance_said) c.deref-8.ensures.value ∙ of.all in
     let kept_by : c.in_ok-steps.field-0.kept.items ≡ map (is_kept (protocol_of c.args.protocol.now)) (definitions.instances (protocol_of c.args.protocol.now)) =
     kept at.In_ok-steps ∙ ap (map (is_kept (protocol_in u))) all
     ∙ ap (λ (m : Protocol). map (is_kept (protocol_of m)) (definitions.instances (protocol_of c.args.protocol.now))) c.in_ok-unfolder.ensures in
-    c.in_ok-origins.ensures.places ∙ ap (map instance_place) c.deref-11.ensures.value ∙ c.in_ok-left.ensures.places
-    ∙ ap₂ chosen_places (ap (map instance_place) c.deref-8.ensures.value ∙ of.places) (c.deref-9.ensures.value ∙ kept_by)
+    c.in_ok-origins.ensures.places ∙ ap (map instance_place) c.deref-12.ensures.value ∙ c.in_ok-left.ensures.places
+    ∙ ap₂ chosen_places (ap (map instance_place) c.deref-9.ensures.value ∙ of.places) (c.deref-10.ensures.value ∙ kept_by)
 
 pub returns-clause-hides_nothing : goal.returns-clause-hides_nothing
 returns-clause-hides_nothing c = λ apart.
     let at = goal.at.returns-clause-hides_nothing c in
     let m = protocol_of c.args.protocol.now in
-    let named = ap (map name_of) (ap (λ (es : List declared_element.Element). map flat_element es) c.deref-2.ensures.value ∙ (elements at.In_ok-elements).all) in
-    let of-steps = ap (map definitions.instance_name) (ap (λ (is : List declared.Instance). map instance_said is) c.deref-3.ensures.value ∙ (instances at.In_ok-instances).all) in
-    let others = subst (λ (ds : List SortDeclaration). AreNot (enumerators_in (declarations_said ds)) (map name_of (map flat_element c.deref-2.result.now))) c.deref.ensures.value
+    let named = ap (map name_of) (ap (λ (es : List declared_element.Element). map flat_element es) c.deref-3.ensures.value ∙ (elements at.In_ok-elements).all) in
+    let of-steps = ap (map definitions.instance_name) (ap (λ (is : List declared.Instance). map instance_said is) c.deref-4.ensures.value ∙ (instances at.In_ok-instances).all) in
+    let others = subst (λ (ds : List SortDeclaration). AreNot (enumerators_in (declarations_said ds)) (map name_of (map flat_element c.deref-3.result.now))) c.deref-2.ensures.value
     c.in_ok-check_elements.ensures.untaken in
-    let defined = ap (map definition_bytes) c.deref-5.ensures.value ∙ names-said c.args.protocol.now.definitions.items in
-    let no_enumerators = subst (λ (ds : List SortDeclaration). AreNot (enumerators_in (declarations_said ds)) (map definition_bytes c.deref-5.result.now)) c.deref-4.ensures.value
+    let defined = ap (map definition_bytes) c.deref-6.ensures.value ∙ names-said c.args.protocol.now.definitions.items in
+    let no_enumerators = subst (λ (ds : List SortDeclaration). AreNot (enumerators_in (declarations_said ds)) (map definition_bytes c.deref-6.result.now)) c.deref-5.ensures.value
     c.in_ok-check_definitions.ensures.untaken in
     record {
       elements = subst (λ (ns : List Name). AreDistinct ns) named c.in_ok-check_elements.ensures.distinct;
@@ -160,55 +162,55 @@ returns-in_err-instances-clause-refused c =
     let m = protocol_form c.args.protocol.now in
     refused c.from_residual-in_err-instances.result c.in_err-instances.field-0.0 (IsUnfoldingFault m) (IsUnfoldingFault m) c.from_residual-in_err-instances.ensures.1 (λ f is. is)
     (err-raised (IsPassedIn MAX_WRITTEN_STEPS (instance_places m)) (IsUnfoldingFault m) c.instances.result c.in_err-instances.field-0.0 c.in_err-instances.ensures.cases (instances-passed m)
-    c.instances.ensures.refused)
+    (subst (λ (p : Protocol). IfRefused c.instances.result (IsPassedIn MAX_WRITTEN_STEPS (instance_places (protocol_form p)))) c.in_ok-whole.ensures c.instances.ensures.refused))
 
 pub returns-in_err-check_elements-clause-refused : goal.returns-in_err-check_elements-clause-refused
 returns-in_err-check_elements-clause-refused c =
     let of = elements (goal.at.returns-in_err-check_elements-clause-refused c).In_ok-elements in
-    let others = enumerators_in (declarations_said c.deref.result.now) in
-    let names = map name_of (map flat_element c.deref-2.result.now) in
-    let places = map element_place c.deref-2.result.now in
+    let others = enumerators_in (declarations_said c.deref-2.result.now) in
+    let names = map name_of (map flat_element c.deref-3.result.now) in
+    let places = map element_place c.deref-3.result.now in
     refused c.from_residual-in_err-check_elements.result c.in_err-check_elements.field-0.0 (IsFaultOfElements others names places) (IsUnfoldingFault (protocol_form c.args.protocol.now))
     c.from_residual-in_err-check_elements.ensures.1
     (elements-clash (protocol_form c.args.protocol.now) others names places
-    (ap (λ (ds : List SortDeclaration). enumerators_in (declarations_said ds)) c.deref.ensures.value)
-    (ap (map name_of) (ap (λ (es : List declared_element.Element). map flat_element es) c.deref-2.ensures.value ∙ of.all))
-    (ap (λ (es : List declared_element.Element). map element_place es) c.deref-2.ensures.value ∙ of.places))
+    (ap (λ (ds : List SortDeclaration). enumerators_in (declarations_said ds)) c.deref-2.ensures.value)
+    (ap (map name_of) (ap (λ (es : List declared_element.Element). map flat_element es) c.deref-3.ensures.value ∙ of.all))
+    (ap (λ (es : List declared_element.Element). map element_place es) c.deref-3.ensures.value ∙ of.places))
     c.in_err-check_elements.ensures.refused
 
 pub returns-in_err-check_instances-clause-refused : goal.returns-in_err-check_instances-clause-refused
 returns-in_err-check_instances-clause-refused c =
     let of = instances (goal.at.returns-in_err-check_instances-clause-refused c).In_ok-instances in
-    let names = map definitions.instance_name (map instance_said c.deref-3.result.now) in
-    let places = map instance_place c.deref-3.result.now in
+    let names = map definitions.instance_name (map instance_said c.deref-4.result.now) in
+    let places = map instance_place c.deref-4.result.now in
     refused c.from_residual-in_err-check_instances.result c.in_err-check_instances.field-0.0 (IsFaultOfInstances names places) (IsUnfoldingFault (protocol_form c.args.protocol.now))
     c.from_residual-in_err-check_instances.ensures.1
     (instances-clash (protocol_form c.args.protocol.now) names places
-    (ap (map definitions.instance_name) (ap (λ (is : List declared.Instance). map instance_said is) c.deref-3.ensures.value ∙ of.all))
-    (ap (λ (is : List declared.Instance). map instance_place is) c.deref-3.ensures.value ∙ of.places))
+    (ap (map definitions.instance_name) (ap (λ (is : List declared.Instance). map instance_said is) c.deref-4.ensures.value ∙ of.all))
+    (ap (λ (is : List declared.Instance). map instance_place is) c.deref-4.ensures.value ∙ of.places))
     c.in_err-check_instances.ensures.refused
 
 pub returns-in_err-check_definitions-clause-refused : goal.returns-in_err-check_definitions-clause-refused
 returns-in_err-check_definitions-clause-refused c =
     let m = protocol_form c.args.protocol.now in
     let ds = c.args.protocol.now.definitions.items in
-    let others = enumerators_in (declarations_said c.deref-4.result.now) in
-    let names = map definition_bytes c.deref-5.result.now in
-    let places = map definition_place c.deref-5.result.now in
+    let others = enumerators_in (declarations_said c.deref-5.result.now) in
+    let names = map definition_bytes c.deref-6.result.now in
+    let places = map definition_place c.deref-6.result.now in
     refused c.from_residual-in_err-check_definitions.result c.in_err-check_definitions.field-0.0 (IsFaultOfDefinitions others names places) (IsUnfoldingFault m)
     c.from_residual-in_err-check_definitions.ensures.1
     (definitions-clash m others names places
-    (ap (λ (ss : List SortDeclaration). enumerators_in (declarations_said ss)) c.deref-4.ensures.value)
-    (ap (map definition_bytes) c.deref-5.ensures.value ∙ names-said ds)
-    (ap (map definition_place) c.deref-5.ensures.value ∙ places-said ds))
+    (ap (λ (ss : List SortDeclaration). enumerators_in (declarations_said ss)) c.deref-5.ensures.value)
+    (ap (map definition_bytes) c.deref-6.ensures.value ∙ names-said ds)
+    (ap (map definition_place) c.deref-6.ensures.value ∙ places-said ds))
     c.in_err-check_definitions.ensures.refused
 
 pub returns-in_err-steps-clause-refused : goal.returns-in_err-steps-clause-refused
 returns-in_err-steps-clause-refused c =
     let m = protocol_form c.args.protocol.now in
-    let is = map placed_instance c.deref-7.result.now in
+    let is = map placed_instance c.deref-8.result.now in
     let of = instances (goal.at.returns-in_err-steps-clause-refused c).In_ok-instances in
-    let steps : is ≡ placed_instances m = ap (map placed_instance) c.deref-7.ensures.value ∙ of.forms in
+    let steps : is ≡ placed_instances m = ap (map placed_instance) c.deref-8.ensures.value ∙ of.forms in
     let P = IsFaultInSteps (form_in c.in_ok-unfolder.unfolder) is in
     refused c.from_residual-in_err-steps.result c.in_err-steps.field-0.0 (IsFaultBy (OfTerm P)) (IsUnfoldingFault m) c.from_residual-in_err-steps.ensures.1
     (term-breaks m P
@@ -235,9 +237,10 @@ impossible_steps-requires c =
     let all : map instance_said c.in_ok-instances.instances.items ≡ definitions.instances (protocol_in u) =
     of.all ∙ ap (λ (p : Protocol). definitions.instances (protocol_of p)) (sym c.in_ok-unfolder.ensures) in
     record {
+      protocol = c.in_ok-whole.ensures ∙ sym c.in_ok-unfolder.ensures;
       kept =
-          c.deref-13.ensures.value ∙ kept at.In_ok-steps
-          ∙ ap (λ (xs : List declared.Instance). map (is_kept (protocol_in u)) (map instance_said xs)) c.deref-7.ensures.value ∙ ap (map (is_kept (protocol_in u))) all;
+          c.deref-14.ensures.value ∙ kept at.In_ok-steps
+          ∙ ap (λ (xs : List declared.Instance). map (is_kept (protocol_in u)) (map instance_said xs)) c.deref-8.ensures.value ∙ ap (map (is_kept (protocol_in u))) all;
       few = omega (arith, of.few, length-map c.in_ok-instances.instances.items instance_said, ap (λ (is : List definitions.Instance). length is) all);
     }
 
@@ -248,3 +251,6 @@ pub returns-in_err-impossible-clause-refused : goal.returns-in_err-impossible-cl
 returns-in_err-impossible-clause-refused c =
     refused c.from_residual-in_err-impossible.result c.in_err-impossible.field-0.0 (λ f. ⊥) (IsUnfoldingFault (protocol_form c.args.protocol.now))
     c.from_residual-in_err-impossible.ensures.1 (λ f none. absurd none) c.in_err-impossible.ensures.refused
+
+pub among-requires : goal.among-requires
+among-requires c = subst (AreElementsOf (protocol_form c.args.protocol.now)) (sym c.deref.ensures.value) (elements (goal.at.among-requires c).In_ok-elements)

@@ -34,11 +34,11 @@ returns-clause-step c =
     let assigned = (rw c.in_ok-guard-2.ensures.1 at c.unfold_all-assignments.ensures.assignments)
     ∙ ap (λ (v : List Assignment). changes m ρ (protocol_assignments v) es) c.deref.ensures.value
     ∙ ap (λ (σ : TermScope). changes m σ i.step.assignments es) c.requires.scope in
-    let name : Name = record { place = c.args.place; text = c.in-Ok.name.text; spelled = c.in-Ok.name.spelled } in
+    let name : Name = record { place = c.args.place; text = c.in-Ok.head.name.text; spelled = c.in-Ok.head.name.spelled } in
     record {
       step =
-          ap (λ (a : flat.Step). a ∷ []) (step-made (record { name = name; variables = c.new.result; guard = g; assignments = bs }) c.new.ensures.items)
-          ∙ step-kept m i _ (term_of g) (map step_assignment bs.items) c.in-Ok.ensures guard assigned
+          ap (λ (a : flat.Step). a ∷ []) (step-made (record { name = name; variables = c.in-Ok.head.variables; guard = g; assignments = bs }))
+          ∙ step-kept m i _ _ (term_of g) (map step_assignment bs.items) c.in-Ok.ensures.name c.in-Ok.ensures.variables guard assigned
           (sym (rw (sym c.in_ok-guard-2.ensures.0) at c.is_possible.ensures) ∙ c.if-not-is_possible.false);
       at = refl;
     }

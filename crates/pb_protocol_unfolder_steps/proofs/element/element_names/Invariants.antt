@@ -1,8 +1,8 @@
 use Rattle.std.proofs.Common.{◌≡◌, map, take}
 use Rattle.pb_protocol_unfolding.specs.Unfolding as definitions
+use Rattle.pb_protocol_whole_steps.specs.View.{name_bytes}
 use Rattle.pb_protocol_unfolder_steps.specs.Elements.{flat_element}
-use Rattle.pb_protocol_unfolder.specs.Apart.{name_bytes}
-use Rattle.pb_protocol_unfolder.proofs.names.element_names.Given as goal
+use Rattle.pb_protocol_unfolder_steps.proofs.element.element_names.Given as goal
 
 abbrev pub invariant-loop-element : goal.invariant-loop-element
 invariant-loop-element l = map name_bytes l.names.items ≡ map definitions.name_of (map flat_element (take l.element-index l.elements))

@@ -1,5 +1,5 @@
 use Rattle.std.proofs.Common.{◌≡◌, take}
-use Rattle.pb_protocol_unfolder.proofs.left.copy_values.Given as goal
+use Rattle.pb_protocol_unfolder_steps.proofs.own.copy_values.Given as goal
 
 abbrev pub invariant-loop-value : goal.invariant-loop-value
 invariant-loop-value l = l.copies.items ≡ take l.value-index l.values
