@@ -79,7 +79,7 @@ module _ (spec : Spec) (m : Contents) (h : IsCompiledModule spec m) where
 
   module _ (typed : IsWellTyped spec) (programs_made : (X : Equation) (p : Program) → IsMadeOf spec X p → IsProgramOf spec X p)
       (decides : All (λ (X : Equation). (p : Program) → IsProgramOf spec X p → DecidesEquation spec X p) spec.equations) (trees : ℕ → Tree) (ends : AreTrees m trees) where
-    are_programs : (E : List Equation) (es : List EquationContents) → AreEquationsOf spec m E es → ArePrograms spec E (map (program_of m) es)
+    pub are_programs : (E : List Equation) (es : List EquationContents) → AreEquationsOf spec m E es → ArePrograms spec E (map (program_of m) es)
     are_programs [] [] q = tt
     are_programs [] (e ∷ es) q = absurd q
     are_programs (X ∷ E) [] q = absurd q
@@ -106,7 +106,7 @@ module _ (spec : Spec) (m : Contents) (h : IsCompiledModule spec m) where
         let rest = same_signatures E es q.1 in
         cc
 
-    all_values : layout.carriers_of (parameters m) ≡ all_carriers spec
+    pub all_values : layout.carriers_of (parameters m) ≡ all_carriers spec
     all_values = same_values spec.equations m.equations h.equations
 
     has_equation : (es : List EquationContents) (k : ℕ) (p : Program) → slice_get (map (program_of m) es) k ≡ Some p → (e : EquationContents) × (slice_get es k ≡ Some e) × (program_of m e ≡ p)
@@ -114,7 +114,7 @@ module _ (spec : Spec) (m : Contents) (h : IsCompiledModule spec m) where
     has_equation (e ∷ es) zero p at = (e, refl, cc)
     has_equation (e ∷ es) (suc k) p at = has_equation es k p at
 
-    are_trees : scheme.AreTrees spec (map (program_of m) m.equations) trees
+    pub are_trees : scheme.AreTrees spec (map (program_of m) m.equations) trees
     are_trees k p tuple at fit =
         let q = has_equation m.equations k p at in
         let fits = subst (λ (b : Program). AreArguments b.parameters tuple) (sym q.2) fit in
@@ -143,7 +143,7 @@ module _ (spec : Spec) (m : Contents) (h : IsCompiledModule spec m) where
         (decides k X (slice_get_within spec.equations k X at_text)) (program_of m e) p in
         law values (trees (number_at m k values)) fit (ends k e values at fit) numbers t matches
 
-    signatures : map signature_of m.equations ≡ map (scheme.signature_of spec) spec.equations
+    pub signatures : map signature_of m.equations ≡ map (scheme.signature_of spec) spec.equations
     signatures = same_signatures spec.equations m.equations h.equations
 
     pub says_the_same : SaysTheSame spec m trees

@@ -60,7 +60,7 @@ module _ (spec : Spec) (apart : AreApart (map (λ (X : Equation). X.name) spec.e
     (callees : List (List program.Carrier)) (same : layout.carriers_of callees ≡ all_carriers spec) (i : Instance)
     (known : IsKnown spec i) where
   -- the instance with its equation's place in place of a name
-  abbrev placed : numbered.Instance
+  abbrev pub placed : numbered.Instance
   placed = record { equation = place_in spec i; values = i.values }
 
   is-placed : numbered.is_instance (all_carriers spec) placed ≡ true
@@ -69,7 +69,7 @@ module _ (spec : Spec) (apart : AreApart (map (λ (X : Equation). X.name) spec.e
       (slice_get-map (λ (X : Equation). carriers_of spec X.parameters) spec.equations (place_in spec i) ∙ ap (option_map (λ (X : Equation). carriers_of spec X.parameters)) known.at)
       ∙ known.within
 
-  stands : slice_get (instances (all_carriers spec)) (number_in spec i) ≡ Some placed
+  pub stands : slice_get (instances (all_carriers spec)) (number_in spec i) ≡ Some placed
   stands =
       let with_callees : numbered.is_instance (layout.carriers_of callees) placed ≡ true = ap (λ (css : List (List Carrier)). numbered.is_instance css placed) same ∙ is-placed in
       let h = number-is_instance (layout.carriers_of callees) placed with_callees in

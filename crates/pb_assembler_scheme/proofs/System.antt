@@ -40,34 +40,35 @@ program-at spec (Y ∷ E) [] k X h e = absurd h
 program-at spec (Y ∷ E) (p ∷ ps) zero X h e = let same : Y ≡ X = cc in record { program = p; at = refl; of_equation = subst (λ (Z : Equation). IsProgramOf spec Z p) same h.0 }
 program-at spec (Y ∷ E) (p ∷ ps) (suc k) X h e = let r = program-at spec E ps k X h.1 e in record { program = r.program; at = r.at; of_equation = r.of_equation }
 
+-- where the equation of an instance holds
+abbrev pub holds_of : Spec → Option Equation → Instance → Environment Instance → Bool
+holds_of spec None i t = false
+holds_of spec (Some X) i t = (equation_of spec X).holds i t
+
+abbrev pub holds_there : Spec → Equation → Instance → Environment Instance → Bool
+holds_there spec X i t = holds_of spec (equation_named spec.equations i.name) i t
+
+-- an equation that holds at each instance where the equation of the instance's name does
+abbrev pub by_name : Spec → Equation → fixpoint.Equation Instance
+by_name spec X = changed Instance Equation (equation_of spec) (holds_there spec) X
+
 module _ (spec : Spec) (typed : IsWellTyped spec)
     (decides : All (λ (X : Equation). (p : Program) → IsProgramOf spec X p → DecidesEquation spec X p) spec.equations)
     (ps : List Program) (programs : ArePrograms spec spec.equations ps) (trees : ℕ → Tree) (ends : AreTrees spec ps trees) where
-  -- where the equation of an instance holds
-  abbrev holds_of : Option Equation → Instance → Environment Instance → Bool
-  holds_of None i t = false
-  holds_of (Some X) i t = (equation_of spec X).holds i t
-
-  abbrev holds_there : Equation → Instance → Environment Instance → Bool
-  holds_there X i t = holds_of (equation_named spec.equations i.name) i t
-
-  abbrev made : Equation → fixpoint.Equation Instance
-  made X = changed Instance Equation (equation_of spec) holds_there X
-
-  holds-alike : (X : Equation) (k : ℕ) → slice_get spec.equations k ≡ Some X → HoldsAlike Instance Equation (equation_of spec) holds_there X
+  holds-alike : (X : Equation) (k : ℕ) → slice_get spec.equations k ≡ Some X → HoldsAlike Instance Equation (equation_of spec) (holds_there spec) X
   holds-alike X k at t i own =
       let two = and_parts (same_name X.name i.name) (is_within (carriers_of spec X.parameters) i.values) own in
       let name : X.name ≡ i.name = (bytes_eq-Decides X.name i.name).0 two.0 in
       let found = found-named spec.equations k X typed.declarations.predicate_variables at in
-      ap (λ (o : Option Equation). holds_of o i t) (ap (equation_named spec.equations) (sym name) ∙ found)
+      ap (λ (o : Option Equation). holds_of spec o i t) (ap (equation_named spec.equations) (sym name) ∙ found)
 
-  all-alike : All (HoldsAlike Instance Equation (equation_of spec) holds_there) spec.equations
+  all-alike : All (HoldsAlike Instance Equation (equation_of spec) (holds_there spec)) spec.equations
   all-alike k d below = holds-alike (get_or spec.equations k d) k (slice_get-get_or spec.equations k d below)
 
   -- an instance's tree is true where its equation holds
   tree-holds : (numbers : Environment ℕ) (t : Environment Instance)
       → Matches (is_instance spec) (number_in spec) numbers t → (i : Instance) → IsKnown spec i
-      → holds_of (equation_named spec.equations i.name) i t ≡ tree_truth numbers (trees (number_in spec i))
+      → holds_of spec (equation_named spec.equations i.name) i t ≡ tree_truth numbers (trees (number_in spec i))
   tree-holds numbers t matches i known =
       let X = known.equation in
       let k = place_in spec i in
@@ -78,7 +79,7 @@ module _ (spec : Spec) (typed : IsWellTyped spec)
       let law : DecidesEquation spec X p =
       subst (λ (Y : Equation). (q : Program) → IsProgramOf spec Y q → DecidesEquation spec Y q) here
       (decides k X (slice_get_within spec.equations k X known.at)) p h.of_equation in
-      ap (λ (o : Option Equation). holds_of o i t) known.found
+      ap (λ (o : Option Equation). holds_of spec o i t) known.found
       ∙ ap (λ x. (equation_of spec X).holds (record { name = x; values = i.values }) t) (sym known.named)
       ∙ sym (law i.values (trees (number_in spec i)) fit (ends k p i.values h.at fit) numbers t matches)
 
@@ -87,7 +88,7 @@ module _ (spec : Spec) (typed : IsWellTyped spec)
       ap tuple_count_at (slice_get-map (λ (Y : Equation). carriers_of spec Y.parameters) spec.equations k ∙ ap (option_map (λ (Y : Equation). carriers_of spec Y.parameters)) at)
 
   is-same : (k first : ℕ) (X : Equation) → slice_get spec.equations k ≡ Some X → first ≡ first_of (all_carriers spec) k
-      → IsSame (is_instance spec) (number_in spec) (Rattle.pb_fixpoint_trees.specs.Equations.equation first (signature_of spec X) trees) (made X)
+      → IsSame (is_instance spec) (number_in spec) (Rattle.pb_fixpoint_trees.specs.Equations.equation first (signature_of spec X) trees) (by_name spec X)
   is-same k first X at begins = record {
     sign = refl;
     size = refl;
@@ -104,8 +105,8 @@ module _ (spec : Spec) (typed : IsWellTyped spec)
   long [] = refl
   long (X ∷ E) = ap suc (long E)
 
-  are-same : (E : List Equation) (k first : ℕ) → first ≡ first_of (all_carriers spec) k → ((b : ℕ) → slice_get spec.equations (k + b) ≡ slice_get E b)
-      → AreSame (is_instance spec) (number_in spec) (numbered first (map (signature_of spec) E) trees) (map made E)
+  pub are-same : (E : List Equation) (k first : ℕ) → first ≡ first_of (all_carriers spec) k → ((b : ℕ) → slice_get spec.equations (k + b) ≡ slice_get E b)
+      → AreSame (is_instance spec) (number_in spec) (numbered first (map (signature_of spec) E) trees) (map (by_name spec) E)
   are-same [] k first begins behind = tt
   are-same (X ∷ E) k first begins behind =
       let none : k + 0 ≡ k = omega arith in
@@ -122,8 +123,8 @@ module _ (spec : Spec) (typed : IsWellTyped spec)
 
   pub solutions-match : (i : Instance) → is_instance spec i ≡ true → solution (equations_of spec) empty i ≡ solved (map (signature_of spec) spec.equations) trees (number_in spec i)
   solutions-match i e =
-      ap (λ (t : Environment Instance). t i) (same-solution Instance Equation (equation_of spec) holds_there spec.equations all-alike empty)
-      ∙ solution-matches ℕ Instance (is_instance spec) (number_in spec) (numbered 0 (map (signature_of spec) spec.equations) trees) (map made spec.equations)
+      ap (λ (t : Environment Instance). t i) (same-solution Instance Equation (equation_of spec) (holds_there spec) spec.equations all-alike empty)
+      ∙ solution-matches ℕ Instance (is_instance spec) (number_in spec) (numbered 0 (map (signature_of spec) spec.equations) trees) (map (by_name spec) spec.equations)
       (are-same spec.equations 0 0 refl (λ b. let none : 0 + b ≡ b = omega arith in ap (slice_get spec.equations) none)) empty empty (λ j k. refl) i e
 
   pub have-answer : HaveAnswer spec trees

@@ -7,6 +7,7 @@
 ghost use Rattle.pb_fixpoint_symmetry.specs.Laws.{SymmetriesKeepTheSolution, ReducedSystemsSuffice};
 ghost use Rattle.pb_fixpoint_symmetry.specs.Laws.{SymmetriesCompose};
 ghost use Rattle.pb_fixpoint_symmetry.specs.Laws.{CallsMayGoToRepresentatives};
+ghost use Rattle.pb_fixpoint_symmetry.specs.Renaming.{RenamedSystemsAreClosed, SymmetriesAreRenamed};
 ghost use Rattle.pb_fixpoint_symmetry.specs.Trees.{TreesMayCallRepresentatives};
 
 /// The solution has one truth value at an instance and at that to which a symmetry carries it.
@@ -33,4 +34,14 @@ pub fn trees_may_call_representatives<G>()
 /// One symmetry after another is a symmetry.
 pub fn symmetries_compose<I>()
     ensures { SymmetriesCompose I }
+{}
+
+/// A system's symmetry is one of the same system over other instances, along with their names.
+pub fn symmetries_are_renamed<I, J>()
+    ensures { SymmetriesAreRenamed I J }
+{}
+
+/// A system that is another one under other names reads known instances alone.
+pub fn renamed_systems_are_closed<I, J>()
+    ensures { RenamedSystemsAreClosed I J }
 {}

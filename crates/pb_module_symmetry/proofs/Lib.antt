@@ -1,0 +1,3 @@
+mod Renamed
+mod Symmetric
+mod Translated
