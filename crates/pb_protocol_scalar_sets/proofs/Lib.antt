@@ -1,0 +1,7 @@
+mod Scopes
+mod Carriers
+mod Terms
+mod Tested
+mod Indices
+mod Formulas
+mod Symmetric

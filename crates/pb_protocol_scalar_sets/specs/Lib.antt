@@ -1,0 +1,9 @@
+pub mod Formulas
+pub mod Joined
+pub mod Scopes
+pub mod Sorts
+pub mod Steps
+pub mod Symmetric
+pub mod Terms
+pub mod Tested
+pub mod View
