@@ -18,7 +18,10 @@ pub struct Signatures {
 
 impl Signatures {
     /// The sign of each equation of a module, and how many instances its predicate variable has.
-    pub(crate) fn of_module(alloc: Global, verified: &Verified) -> Result<Signatures, AllocError>
+    ///
+    /// # Errors
+    /// Memory was refused.
+    pub fn of_module(alloc: Global, verified: &Verified) -> Result<Signatures, AllocError>
         ensures { IfOk result (λ signatures. equations_of signatures.items.items
             ≡ map signature_of verified.now.equations) }
     {
