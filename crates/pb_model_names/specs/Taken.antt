@@ -1,4 +1,4 @@
--- Sets of names that are taken, and the numbers behind names at which searches begin.
+-- Sets of names that are taken, and the numbers after names at which searches begin.
 use Rattle.std.specs.Prelude.{◌≡◌, ◌<◌, ◌++◌, ℕ, List, true, false, Some, String}
 use Rattle.std.specs.Prelude.{string_bytes}
 use Rattle.std.specs.declared.alloc.Global.{Global}
@@ -25,7 +25,7 @@ IsSetOf names set = (x : Name) → contains_text set x ≡ list_any (same_name x
 abbrev pub Adds : NameSet → NameSet → List Name → Type 0
 Adds old new xs = (names : List Name) → IsSetOf names old → IsSetOf (names ++ xs) new
 
--- with each lower number from 1 on behind it the name is taken
+-- with each lower number from 1 on after it the name is taken
 abbrev pub IsStart : NameSet → Name → ℕ → Type 0
 IsStart taken x k =
     (0 < k) × ((i : ℕ) → 0 < i → i < k → contains_text taken (numbered x i) ≡ true)
@@ -33,7 +33,7 @@ IsStart taken x k =
 abbrev pub AreStarts : NameSet → Starts → Type 0
 AreStarts taken starts = (x : Name) (k : ℕ) → get_by_text starts x ≡ Some k → IsStart taken x k
 
--- the name with the first number behind it with which it isn't taken
+-- the name with the first number after it with which it isn't taken
 abbrev pub IsFirstFree : NameSet → Name → FreeName → Type 0
 IsFirstFree taken x n =
     IsStart taken x n.number × (contains_text taken (numbered x n.number) ≡ false)

@@ -12,7 +12,7 @@ use crate::fresh::{FreeName, first_free, with_room};
 use std::alloc::{AllocError, Global};
 use std::collections::{HashMap, HashSet};
 
-/// Names that are taken, and numbers at which the search for one behind a name begins. No name
+/// Names that are taken, and numbers at which the search for one after a name begins. No name
 /// becomes free again, so the numbers below needn't be tried twice.
 #[derive(Drop)]
 pub(crate) struct Taken {
@@ -40,7 +40,7 @@ impl Taken {
         Ok(())
     }
 
-    /// The number at which the search for one behind a name begins.
+    /// The number at which the search for one after a name begins.
     fn start(&self, name: &str) -> usize
         ensures { IsStart self.now.names name.now result }
     {
@@ -50,7 +50,7 @@ impl Taken {
         }
     }
 
-    /// The name, or where it is taken, with the first number behind it with which it isn't. It is
+    /// The name, or where it is taken, with the first number after it with which it isn't. It is
     /// not taken by this.
     pub fn new_name(&mut self, alloc: Global, wanted: &str) -> Result<BareName, AllocError>
         requires { is_spelled wanted.now ≡ true }

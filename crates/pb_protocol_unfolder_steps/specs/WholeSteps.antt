@@ -1,4 +1,4 @@
--- The names by which it is told which steps stay whole.
+-- The names by which steps that stay whole are distinguished.
 use Rattle.std.specs.Prelude.{◌≡◌, ◌<◌, ◌≤◌, ℕ, Bool, Option, Some, None, List, [], map, flat_map}
 use Rattle.std.specs.Borrow.{Bor}
 use Rattle.pb_text_tree.specs.declared.name.Name as declared_name
@@ -46,7 +46,7 @@ abbrev pub IsCount : ℕ → Option ℕ → Type 0
 IsCount n None = most_written < n
 IsCount n (Some k) = (k ≡ n) × (n ≤ most_written)
 
--- ---- what is told of a protocol
+-- ---- what is known of a protocol
 
 -- whether it has too many steps with their values, the names that own variables may not have, and
 -- those of the steps that are named by values
