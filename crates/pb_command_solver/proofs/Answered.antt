@@ -1,18 +1,23 @@
 -- The answer to a module whose game is solved, from what was counted of its rows.
 use Rattle.std.proofs.Common.{◌≡◌, ℕ, ◌≤◌, Bool, List, length, map, refl, ap, ◌∙◌}
+use Rattle.std.proofs.lemmas.List.{length-map}
 use Rattle.pb_fixpoint_trees.specs.Tree.{Tree}
 use Rattle.pb_fixpoint_trees.specs.Rows as plain
 use Rattle.pb_fixpoint_trees.specs.Row.{TokenRow}
-use Rattle.pb_fixpoint_trees.specs.Reached.{rows_of}
+use Rattle.pb_fixpoint_trees.specs.Equations.{Signature}
+use Rattle.pb_fixpoint_trees.specs.Game.{vertex_of}
+use Rattle.pb_fixpoint_trees.specs.Reached.{row_of, rows_of}
 use Rattle.pb_sorts.specs.declared.counting.Counting.{Counting}
 use Rattle.pb_bytecode.specs.Contents.{Contents}
 use Rattle.pb_bytecode.specs.Meaning.{AreTrees, signature_of, initial_of, answer}
 use Rattle.pb_exploration_reached.specs.Rows.{AreExploredRows}
 use Rattle.pb_game.specs.Games.{vertex_count}
 use Rattle.pb_game_of_trees.specs.Explored.{IsModuleGame}
+use Rattle.pb_game_of_trees.specs.Drafted.{IsDraftedGame, IsModuleDraft}
+use Rattle.pb_game_of_trees.specs.declared.drafted.DraftedGame.{DraftedGame}
 use Rattle.pb_game_of_trees.specs.declared.tree_game.TreeGame.{TreeGame}
 use Rattle.pb_game_of_trees.specs.VertexLimit.{vertex_limit}
-use Rattle.pb_game_of_trees.specs.TreeGame.{AreRowsFrom}
+use Rattle.pb_game_of_trees.specs.TreeGame.{AreRowsFrom, IsTreeGame}
 use Rattle.pb_game_of_trees.specs.Held.{Hold}
 use Rattle.pb_game_of_trees.proofs.Reached.{AreReached, found_row, reached_of}
 use Rattle.pb_report.specs.declared.answer.Answer.{Answer}
@@ -21,6 +26,20 @@ use Rattle.pb_report.proofs.ReachedGames.{same_length}
 use Rattle.pb_command_solver.specs.Answers.{IsAnswerOf}
 use Rattle.pb_command_solver.specs.Parts.{IsTruthIn}
 use Rattle.pb_command_solver.proofs.Rows.{module_rows}
+
+-- a draft has a vertex for each row
+pub drafted_rows : (m : Contents) (rows : List TokenRow) (drafted : DraftedGame) → IsModuleDraft m rows drafted
+    → (trees : ℕ → Tree) → AreTrees m trees → length drafted.vertices.items ≡ length rows
+drafted_rows m rows drafted draft trees have =
+    ap length (draft trees have).vertices
+    ∙ (length-map (rows_of trees rows) (λ (row : plain.Row). vertex_of (rows_of trees rows) row.number) ∙ length-map rows (row_of trees))
+
+-- the game that is made of a module's draft is the module's
+pub game_of_draft : (m : Contents) (rows : List TokenRow) (drafted : DraftedGame) (built : TreeGame) → IsModuleDraft m rows drafted
+    → ((signatures : List Signature) (trees : ℕ → Tree) (reached : List plain.Row) (initial : ℕ)
+    → IsDraftedGame signatures trees reached initial drafted → IsTreeGame signatures trees reached initial built)
+    → IsModuleGame m rows built
+game_of_draft m rows drafted built draft finished trees have = finished _ _ _ _ (draft trees have)
 
 module _ (m : Contents) (rows : List TokenRow) (built : TreeGame) (explored : AreExploredRows m rows) (game : IsModuleGame m rows built) where
   from : (trees : ℕ → Tree) → AreTrees m trees → AreRowsFrom (map signature_of m.equations) trees rows (initial_of m)

@@ -27,6 +27,33 @@ pub struct BuiltModule {
     pub built: TreeGame,
 }
 
+/// Explores the reached instances of a verified module, by so many workers. The gate sees each
+/// attempt of a worker to take an instance, and that the work begins.
+///
+/// # Errors
+/// `TooManyVertices` where more instances are reached than `vertex_limit` has, by which instances
+/// count; else `Memory`.
+pub(crate) fn explore_module<R: Threads + Sync, G: Progress + Sync>(
+    context: &Context<'_, R, G>,
+    verified: &Verified,
+    counting: Counting,
+    workers: Workers,
+) -> Result<Explored, BuildError>
+    ensures { MatchResult result (λ explored. AreExploredRows verified.now explored)
+        (SaysTooLarge counting verified.now) }
+{
+    context.gate.begins(Phase::Exploring);
+    let limits = Limits {
+        workers: workers.count,
+        instances: vertex_limit(counting),
+    };
+    let reached = explore(context.rt, context.alloc, verified, limits, context.gate)?;
+    let Some(explored) = reached else {
+        return Err(BuildError::Refused(TooManyVertices));
+    };
+    Ok(explored)
+}
+
 /// Explores the reached instances of a verified module, by so many workers, and builds their game.
 /// The gate sees each attempt of a worker to take an instance, and both parts of the work. Nothing
 /// is solved.
@@ -43,17 +70,13 @@ pub fn build_module<R: Threads + Sync, G: Progress + Sync>(
     ensures { MatchResult result (IsBuiltModule counting verified.now)
         (SaysTooLarge counting verified.now) }
 {
-    context.gate.begins(Phase::Exploring);
-    let limits = Limits {
-        workers: workers.count,
-        instances: vertex_limit(counting),
-    };
-    let reached = explore(context.rt, context.alloc, verified, limits, context.gate)?;
-    let Some(explored) = reached else {
-        return Err(BuildError::Refused(TooManyVertices));
-    };
-    context.gate.begins(Phase::Building);
-    build_explored(&crew_of(context, workers), verified, counting, explored)
+    match explore_module(context, verified, counting, workers) {
+        Ok(explored) => {
+            context.gate.begins(Phase::Building);
+            build_explored(&crew_of(context, workers), verified, counting, explored)
+        }
+        Err(error) => Err(error),
+    }
 }
 
 /// The same, going on from the instances nearby where one worker explores and keeps only what it

@@ -20,4 +20,4 @@ pub mod Sizes
 pub mod Placed
 pub mod Refused
 pub mod Dense
-pub mod FoundPlaces
+pub mod DraftLengths

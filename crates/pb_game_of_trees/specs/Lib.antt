@@ -10,3 +10,4 @@ pub mod Numbering
 pub mod VertexLimit
 pub mod TreeGame
 pub mod Explored
+pub mod Drafted

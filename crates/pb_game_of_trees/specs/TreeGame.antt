@@ -50,8 +50,8 @@ HasTooManyVertices counting signatures trees rows =
     vertex_limit counting < length (game_vertices signatures (rows_of trees rows))
 
 -- it is refused exactly where it is too large
-abbrev pub IsRefusedExactly : Counting → Result TreeGame (OrMemory TooManyVertices)
+abbrev pub IsRefusedExactly : {X : Type 0} → Counting → Result X (OrMemory TooManyVertices)
     → List Signature → List TokenRow → Type 0
-IsRefusedExactly counting result signatures rows =
+IsRefusedExactly {X} counting result signatures rows =
     (trees : ℕ → Tree) → AreRowsOf signatures trees rows
     → (result ≡ Err (Refused (record {}))) ↔ HasTooManyVertices counting signatures trees rows

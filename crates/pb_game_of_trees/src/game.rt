@@ -6,12 +6,13 @@ ghost use Rattle.pb_fixpoint_trees.specs.Reached.{AreRowsOf};
 ghost use Rattle.pb_bytecode.specs.Meaning.{signature_of, initial_of};
 ghost use Rattle.pb_game_of_trees.specs.TreeGame.{RowsHaveTrees, IsGameOf};
 ghost use Rattle.pb_game_of_trees.specs.TreeGame.{KeepsVertexLimit, HasTooManyVertices};
+ghost use Rattle.pb_game_of_trees.specs.Drafted.{IsModuleDraft, KeepsDraftLimit};
 ghost use Rattle.pb_game_of_trees.specs.Explored.{ModuleHasTrees, AreModuleRows, IsModuleGame};
 ghost use Rattle.pb_game_of_trees.specs.Explored.{IsModuleTooLarge};
 
 use crate::crew::Crew;
 use crate::signatures::Signatures;
-use crate::{BuildError, TreeGame};
+use crate::{BuildError, DraftedGame, TreeGame};
 use pb_fixpoint_trees::IndexedRows;
 use pb_sorts::Counting;
 use pb_verifier::Verified;
@@ -60,4 +61,25 @@ pub fn build<R: Threads + Sync>(
     ensures too_many { OnRefused result (IsModuleTooLarge counting verified.now rows.now) }
 {
     build_rows(crew, verified, rows, counting)
+}
+
+/// The vertices of the game of a module's reached instances: that game, before it is finished
+/// without the rows.
+///
+/// # Errors
+/// As with `build`.
+pub fn draft_module<R: Threads + Sync>(
+    crew: &Crew<'_, R>,
+    verified: &Verified,
+    rows: &IndexedRows,
+    counting: Counting,
+) -> Result<DraftedGame, BuildError>
+    requires trees { ModuleHasTrees verified.now }
+    requires rows { AreModuleRows verified.now rows.now }
+    ensures draft { IfOk result (IsModuleDraft verified.now rows.now) }
+    ensures few { IfOk result (KeepsDraftLimit counting) }
+    ensures too_many { OnRefused result (IsModuleTooLarge counting verified.now rows.now) }
+{
+    let signatures = Signatures::of_module(crew.alloc, verified)?;
+    DraftedGame::of_rows(crew, &signatures, rows, verified.initial(), counting)
 }

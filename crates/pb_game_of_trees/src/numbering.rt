@@ -6,8 +6,8 @@ ghost use Rattle.pb_game_of_trees.specs.Held.{Hold};
 ghost use Rattle.pb_game_of_trees.specs.Numbering.{numbered_vertex};
 ghost use Rattle.pb_game_of_trees.specs.Places.{numbers};
 
-use crate::found_vertices::{FoundVertices, find_numbers};
 use crate::sorted_vertices::{SortedVertices, numbers_of_rows};
+use crate::starts::Starts;
 use pb_fixpoint_trees::{IndexedRows, ReadRows};
 use pb_game::Game;
 use std::alloc::{AllocError, Global};
@@ -16,18 +16,13 @@ use std::alloc::{AllocError, Global};
 /// number, of which a part of the instances has few.
 const SPARSE: usize = 16;
 
-/// Up to so many numbers are searched for in their order; more of them by a hash table, which takes
-/// more memory and fewer steps.
-const FEW: usize = 65_536;
-
 /// The vertices of instances by their numbers: those of the rows, where each number has a row; else
-/// in a table of all numbers, or among those of the rows: in their order, or by a hash table.
+/// in a table of all numbers, or among those of the rows, in their order.
 #[derive(Drop)]
 pub(crate) enum Numbering<'a> {
     Dense(&'a [u32]),
     Table(Vec<u32>),
     Sorted(SortedVertices<'a>),
-    Found(FoundVertices<'a>),
 }
 
 impl Numbering<'_> {
@@ -39,7 +34,6 @@ impl Numbering<'_> {
             Numbering::Dense(vertices) => vertex_at(vertices, number),
             Numbering::Table(table) => vertex_at(table, number),
             Numbering::Sorted(sorted) => sorted.vertex(number),
-            Numbering::Found(found) => found.vertex(number),
         }
     }
 }
@@ -70,13 +64,14 @@ pub(crate) fn number_vertices<'a>(
     if rows.len() == count {
         return Ok(Numbering::Dense(vertices));
     }
-    if rows.len() < count / SPARSE && rows.len() > FEW {
-        let found = find_numbers(alloc, rows)?;
-        return Ok(Numbering::Found(FoundVertices { found, vertices }));
-    }
     if rows.len() < count / SPARSE {
         let numbers = numbers_of_rows(alloc, rows)?;
-        return Ok(Numbering::Sorted(SortedVertices { numbers, vertices }));
+        let starts = Starts::new(alloc, &numbers)?;
+        return Ok(Numbering::Sorted(SortedVertices {
+            numbers,
+            starts,
+            vertices,
+        }));
     }
     let mut table = vec![in alloc; 0u32; count]?;
     for k in 0..rows.len() {

@@ -1,9 +1,10 @@
-//! The vertices of few instances, which are searched for by their numbers.
+//! The vertices of instances, which are searched for by their numbers.
 ghost use Rattle.std.specs.Prelude.{◌≡◌, IfOk, length};
 ghost use Rattle.std.specs.List.Sorted.{IsStrictlyIncreasing};
 ghost use Rattle.pb_fixpoint_trees.specs.Reached.{numbers_of};
 ghost use Rattle.pb_game_of_trees.specs.Places.{vertex_in};
 
+use crate::starts::Starts;
 use pb_fixpoint_trees::{IndexedRows, ReadRows};
 use std::alloc::{AllocError, Global};
 
@@ -11,6 +12,7 @@ use std::alloc::{AllocError, Global};
 #[derive(Drop)]
 pub(crate) struct SortedVertices<'a> {
     pub numbers: Vec<u64>,
+    pub starts: Starts,
     pub vertices: &'a [u32],
     pub ghost rising: { IsStrictlyIncreasing numbers.items },
     pub ghost sized: { length vertices.now ≡ length numbers.items },
@@ -21,6 +23,9 @@ impl SortedVertices<'_> {
     pub(crate) fn vertex(&self, number: u64) -> u32
         ensures { result ≡ vertex_in self.now.numbers.items self.now.vertices.now number }
     {
+        if let Some(place) = self.starts.find(&self.numbers, number) {
+            return self.vertices[place];
+        }
         match self.numbers.binary_search(&number) {
             Ok(place) => self.vertices[place],
             Err(_) => 0,

@@ -4,16 +4,10 @@ ghost use Rattle.pb_game.specs.declared.limits.TheConstants.{MAX_GAME_VERTICES};
 ghost use Rattle.pb_game.specs.Games.{vertex_count};
 
 use crate::crew::Crew;
-use crate::finished::game_of;
-use crate::levels::{Levels, count_instances};
-use crate::limit::vertex_limit;
-use crate::numbering::number_vertices;
-use crate::places::{Laid, laid_rows};
-use crate::row_parts::draft_of;
-use crate::row_range::RowRange;
+use crate::drafted::DraftedGame;
 use crate::signatures::Signatures;
 use pb_base::{Fault, OrMemory};
-use pb_fixpoint_trees::{IndexedRows, ReadRows};
+use pb_fixpoint_trees::IndexedRows;
 use pb_game::Game;
 use pb_sorts::Counting;
 use std::fmt;
@@ -79,29 +73,9 @@ impl TreeGame {
         ensures too_many { IsRefusedExactly counting result
             (equations_of signatures.now.items.items) rows.now }
     {
-        let alloc = crew.alloc;
-        let Laid { size, vertices } = laid_rows(alloc, rows, vertex_limit(counting))?;
-        let numbers = count_instances(signatures) as usize;
-        let numbering = number_vertices(alloc, rows, &vertices, numbers)?;
-        let levels = Levels::new(alloc, signatures)?;
-        let all = RowRange {
-            levels: &levels,
-            numbering: &numbering,
-            rows,
-            vertices: &vertices,
-            from: 0,
-            to: rows.len(),
-            next: size.vertices as u32,
-        };
-        let draft = draft_of(crew, all, size)?;
-        let start = numbering.vertex(initial);
-        drop(numbering);
-        let game = game_of(alloc, draft.into_parts())?;
-        Ok(TreeGame {
-            game,
-            vertices,
-            start,
-        })
+        let drafted = DraftedGame::of_rows(crew, signatures, rows, initial, counting)?;
+        let built = drafted.finish(crew.alloc)?;
+        Ok(built)
     }
 
     /// How many vertices the game has.

@@ -17,28 +17,8 @@ use Rattle.pb_game_of_trees.proofs.numbering.number_vertices.Goals as goal
 below : (c : Start) (plain : List Row) → Hold c.args.rows.now plain → AreBelow c.args.count c.args.rows.now plain
 below c plain hold = numbered_alike c.args.count c.requires.within plain hold
 
-pub find_numbers-requires : goal.find_numbers-requires
-find_numbers-requires c =
-    let first = c.requires.within in
-    subst IsStrictlyIncreasing (numbers_of c.args.rows.now first.0 first.1) first.2
-
 pub invariant_of-result : goal.invariant_of-result
-invariant_of-result c = record {
-  hashed = c.in_ok-found.ensures.hashed;
-  sized = c.requires.lengths ∙ (sym (length-map c.args.rows.now number) ∙ ap length (sym c.in_ok-found.ensures.numbers));
-}
-
-pub returns-then-len-gt-FEW : goal.returns-then-len-gt-FEW
-returns-then-len-gt-FEW c = λ plain hold.
-    let are = below (goal.at.returns-then-len-gt-FEW c).Start plain hold in
-    let list = c.in_ok-found.found.numbers.items in
-    let vertices = c.args.vertices.now in
-    let same : list ≡ numbers plain = c.in_ok-found.ensures.numbers ∙ sym (numbers_of c.args.rows.now plain hold) in
-    let long : length list ≡ length c.args.rows.now = ap length c.in_ok-found.ensures.numbers ∙ length-map c.args.rows.now number in λ k l.
-    stands list vertices (subst IsStrictlyIncreasing (sym same) are.rising) (get_or (numbers plain) k 0) k (omega (arith, l, are.size, long)) (ap (λ (ns : List ℕ). get_or ns k 0) same)
-
-pub invariant_of-result-then-len-count-3 : goal.invariant_of-result-then-len-count-3
-invariant_of-result-then-len-count-3 c =
+invariant_of-result c =
     let first = c.requires.within in
     record {
       rising = subst IsStrictlyIncreasing (numbers_of c.args.rows.now first.0 first.1 ∙ sym c.in_ok-numbers.ensures) first.2;
@@ -52,9 +32,9 @@ returns-then-len-count c = λ plain hold.
     ap (λ (n : ℕ). get_or c.args.vertices.now n 0)
     (dense (numbers plain) are.rising (λ j h. let b = are.below j (omega (arith, h, long, are.size)) in omega (arith, b, long, are.size)) k (omega (arith, l, long)))
 
-pub returns-then-len-count-3 : goal.returns-then-len-count-3
-returns-then-len-count-3 c = λ plain hold.
-    let are = below (goal.at.returns-then-len-count-3 c).Start plain hold in
+pub returns-then-len-count-2 : goal.returns-then-len-count-2
+returns-then-len-count-2 c = λ plain hold.
+    let are = below (goal.at.returns-then-len-count-2 c).Start plain hold in
     let list = c.in_ok-numbers.numbers.items in
     let vertices = c.args.vertices.now in
     let same : list ≡ numbers plain = c.in_ok-numbers.ensures ∙ sym (numbers_of c.args.rows.now plain hold) in
