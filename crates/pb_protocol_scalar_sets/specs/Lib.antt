@@ -1,5 +1,7 @@
 pub mod Formulas
 pub mod Joined
+pub mod Lines
+pub mod Numbers
 pub mod Scopes
 pub mod Sorts
 pub mod Steps

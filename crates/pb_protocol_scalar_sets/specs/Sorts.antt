@@ -30,6 +30,9 @@ ranges_in rs = map erased_range (map range_form rs)
 abbrev pub enumerators_in : List declared_enumerator.Enumerator → List Enumerator
 enumerators_in es = map erased_enumerator (map enumerator_form es)
 
+abbrev pub enumerator_by : Bor declared_enumerator.Enumerator → Enumerator
+enumerator_by e = erased_enumerator (enumerator_form e.now)
+
 abbrev pub range_by : Bor declared_range.Range → Range
 range_by r = erased_range (range_form r.now)
 

@@ -1,6 +1,7 @@
 //! The values of the sorts of a protocol.
 
-ghost use Rattle.std.specs.Prelude.{◌≡◌, true, codes, IfSome};
+ghost use Rattle.std.specs.Prelude.{◌≡◌, true, codes, IfSome, Some};
+ghost use Rattle.std.specs.List.{slice_get};
 ghost use Rattle.std.specs.Option.{option_map};
 ghost use Rattle.pb_base_values.specs.Carrier as carriers;
 ghost use Rattle.pb_base_values.specs.Carrier.{contains, interval};
@@ -16,7 +17,7 @@ use pb_text_tree::{Name, Range, Sort, SortDeclaration};
 
 /// So many whole numbers from one on: the values of any sort are such.
 #[derive(Clone, Copy)]
-pub(crate) struct Carrier {
+pub struct Carrier {
     low: i32,
     count: u64,
 }
@@ -30,8 +31,21 @@ impl Carrier {
     }
 
     /// How many there are.
-    pub fn count(&self) -> u64 {
+    pub fn count(&self) -> u64
+        ensures { result ≡ self.now.count }
+    {
         self.count
+    }
+
+    /// The place of a value among them, if it is one.
+    pub fn place(&self, value: i32) -> Option<u64>
+        ensures { IfSome result
+            (λ place. slice_get (carrier_said self.now) place ≡ Some value) }
+    {
+        match u64::try_from(i64::from(value) - i64::from(self.low)) {
+            Ok(place) if place < self.count => Some(place),
+            _ => None,
+        }
     }
 
     /// The value at a place, if there is one that fits.
@@ -120,7 +134,7 @@ fn chain_link<'a>(protocol: &'a Protocol, sort: &str) -> Link<'a>
 }
 
 /// The values of a sort. No chain of aliases is longer than the list of sorts.
-pub(crate) fn carrier_of<'a>(protocol: &'a Protocol, sort: &'a str) -> Carrier
+pub fn carrier_of<'a>(protocol: &'a Protocol, sort: &'a str) -> Carrier
     ensures { carrier_said result ≡ sorts.carrier_of (spec_of protocol.now) sort.now }
 {
     let mut sort = sort;

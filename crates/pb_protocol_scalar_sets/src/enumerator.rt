@@ -7,6 +7,7 @@ ghost use Rattle.pb_text_meaning.specs.Sorts as sorts;
 ghost use Rattle.pb_text_meaning.specs.Sorts.{declared, place_from};
 ghost use Rattle.pb_protocol_symmetry.specs.Kinds.{enumerator_value};
 ghost use Rattle.pb_protocol_symmetry.specs.Test.{enumerator_kind, has_enumerator};
+ghost use Rattle.pb_protocol_scalar_sets.specs.Lines.{enumerators_of};
 ghost use Rattle.pb_protocol_scalar_sets.specs.Sorts.{declarations_in, enumerators_in, is_named};
 ghost use Rattle.pb_protocol_scalar_sets.specs.Sorts.{spec_of};
 ghost use Rattle.pb_protocol_scalar_sets.specs.View.{known_kind};
@@ -14,6 +15,7 @@ ghost use Rattle.pb_protocol_scalar_sets.specs.View.{known_kind};
 use crate::carrier::{carrier_of, declared};
 use crate::kind::Kind;
 use crate::scalar_set::ScalarSet;
+use pb_protocol_tree::Protocol;
 use pb_text_tree::{Enumerator, Sort, SortDeclaration};
 
 /// The place of the enumerator of a name among these.
@@ -53,6 +55,17 @@ fn is_among(numbers: &[i32], value: i128) -> bool
         }
     }
     false
+}
+
+/// The enumerators of a sort, of which a range has none.
+pub(crate) fn enumerators<'a>(protocol: &'a Protocol, sort: &str) -> &'a [Enumerator]
+    ensures { enumerators_in result.now
+        ≡ enumerators_of (declared (spec_of protocol.now).sorts sort.now) }
+{
+    match declared(&protocol.sorts, sort) {
+        Some(Sort::Struct(enumerators)) => enumerators,
+        Some(Sort::Alias(_)) | None => &[],
+    }
 }
 
 /// Whether one of these enumerators has the name.

@@ -10,6 +10,7 @@ mod declaration;
 mod enumerator;
 mod formula;
 mod kind;
+mod line;
 mod mention;
 mod movable;
 mod protocol;
@@ -20,6 +21,9 @@ mod step;
 mod term;
 mod variable;
 
+pub use carrier::{Carrier, carrier_of};
+pub use line::push_symmetry;
 pub use movable::{MAX_MOVED, movable_elements};
 pub use protocol::{formula_has_kinds, is_symmetric};
 pub use scalar_set::ScalarSet;
+pub use variable::{Variable, variables_of};

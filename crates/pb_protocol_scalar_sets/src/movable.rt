@@ -6,22 +6,15 @@ ghost use Rattle.pb_base_values.specs.Carrier.{contains};
 ghost use Rattle.pb_text_meaning.specs.Sorts.{carrier_of};
 ghost use Rattle.pb_protocol_scalar_sets.specs.Sorts.{spec_of};
 
-use crate::carrier::{carrier_of, declared};
+use crate::carrier::carrier_of;
+use crate::enumerator::enumerators;
 use crate::mention::{in_formula, in_protocol};
 use pb_protocol_tree::{Formula, Protocol};
-use pb_text_tree::{Enumerator, Sort};
+use pb_text_tree::Enumerator;
 use std::alloc::{AllocError, Global};
 
 /// How many elements are moved at most. More merge no more states in a time that pays.
 pub const MAX_MOVED: usize = 16;
-
-/// The enumerators of a sort, of which those of a range have no names.
-fn enumerators<'a>(protocol: &'a Protocol, sort: &str) -> &'a [Enumerator] {
-    match declared(&protocol.sorts, sort) {
-        Some(Sort::Struct(enumerators)) => enumerators,
-        Some(Sort::Alias(_)) | None => &[],
-    }
-}
 
 /// Whether the element at a place has a name that is used.
 fn is_named(

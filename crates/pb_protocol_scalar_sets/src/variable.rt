@@ -10,7 +10,7 @@ use std::alloc::{AllocError, Global};
 
 /// A variable with the name of its sort.
 #[derive(Clone, Copy)]
-pub(crate) struct Variable<'a> {
+pub struct Variable<'a> {
     pub name: &'a str,
     pub sort: &'a str,
 }
@@ -31,10 +31,7 @@ fn push_group<'a>(variables: &mut Vec<Variable<'a>>, group: &'a Variables) -> Re
 ///
 /// # Errors
 /// Memory was refused.
-pub(crate) fn variables_of(
-    alloc: Global,
-    groups: &[Variables],
-) -> Result<Vec<Variable<'_>>, AllocError>
+pub fn variables_of(alloc: Global, groups: &[Variables]) -> Result<Vec<Variable<'_>>, AllocError>
     ensures { IfOk result (λ variables. map variable_said variables.items
         ≡ erased_variables (variable_forms groups.now)) }
 {
