@@ -156,6 +156,7 @@ unfolded_is_flat laws protocol u solvable is =
     record {
       from = subst (λ (b : Bool). IsFlatWhere b protocol (model_form u.model)) (sym is.unfolds) is.meaning;
       kept = inl is.keeps;
+      hides_nothing = λ _. is.hides_nothing;
       solved = laws.unfolded protocol (model_form u.model) is.hides_nothing is.meaning names;
       first = first_named protocol.properties (model_form u.model).properties names solvable.first;
       apart = λ q among.

@@ -1,5 +1,5 @@
 -- What was made of a protocol that was read.
-use Rattle.std.proofs.Common.{◌≡◌, ◌∙◌, Bool, true, false, ℕ, zero, suc, List, [], ◌∷◌, Some, None, length, map, refl, sym, ap, subst, inl, inr}
+use Rattle.std.proofs.Common.{◌≡◌, ◌∙◌, Bool, true, false, ℕ, zero, suc, List, [], ◌∷◌, Some, None, length, map, refl, sym, ap, subst, inl, inr, true≢false}
 use Rattle.std.specs.Prelude.{nat_lt, Contains, Result, Ok, Err, IfOk}
 use Rattle.std.specs.List.{slice_get}
 use Rattle.std.proofs.lemmas.List.{length-map}
@@ -84,6 +84,7 @@ plain_is_flat law protocol m is plainly =
     record {
       from = plain_of protocol m is.plainly is.words;
       kept = is.rules;
+      hides_nothing = λ other. absurd (true≢false (sym is.plainly ∙ other));
       solved = law protocol m plainly counts.properties is.meaning (names_kept protocol m is.words);
       first = first_plain m.properties (subst (λ (x : ProtocolForm). (p : protocol_form.PropertyForm) × (slice_get x.properties 0 ≡ Some p)) is.words is.solvable.first);
       apart = λ p among. is.kept (plain_form m) (plain_formula_form p.formula) m p.formula (apart (plain_property_form p) (property_among m p among)) (plain_steps m.steps)

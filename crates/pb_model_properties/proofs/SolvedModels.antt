@@ -56,6 +56,7 @@ flat_told said m t names few kept typed protocol is called =
           made = refl;
         };
         kept = flat.kept;
+        hides_nothing = flat.hides_nothing;
         solved = flat.solved;
         typed = subst (λ (x : Model). IsTypedModel (model_form x)) (sym kept) typed;
         first = flat.first;
@@ -101,6 +102,7 @@ packed_told laws u n t names many kept typed is_packed groups protocol is called
       is_for = record {
         made = record { flat = m; from = is.from; is_packed = true; where_many = sym many; made = (to.packable, to.meaning) };
         kept = is.kept;
+        hides_nothing = is.hides_nothing;
         solved = laws.packed protocol m (model_form t.model) is.solved to.packable to.meaning to.names;
         typed = subst (λ (x : Model). IsTypedModel (model_form x)) (sym kept) typed;
         first = first_kept m.properties (model_form t.model).properties to.names is.first;

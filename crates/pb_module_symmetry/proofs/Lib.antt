@@ -1,3 +1,3 @@
-mod Renamed
+pub mod Renamed
 mod Symmetric
-mod Translated
+pub mod Translated

@@ -19,12 +19,12 @@ use Rattle.pb_assembler_scheme.proofs.Numbered.{first-named, found-named}
 use Rattle.pb_fixpoint_symmetry.specs.Renaming.{AreRenamed}
 use Rattle.pb_module_symmetry.specs.Numbers.{is_number, equation_name, named_instance, instance_at}
 
-names-at : (E : List Equation) (k : ℕ) (X : Equation) → slice_get E k ≡ Some X → equation_name E k ≡ X.name
+pub names-at : (E : List Equation) (k : ℕ) (X : Equation) → slice_get E k ≡ Some X → equation_name E k ≡ X.name
 names-at [] k X at = cc
 names-at (Y ∷ E) zero X at = let same : Y ≡ X = cc in ap (λ (Z : Equation). Z.name) same
 names-at (Y ∷ E) (suc k) X at = names-at E k X at
 
-equation-at : (spec : Spec) (E : List Equation) (k : ℕ) (cs : List Carrier) → slice_get (map (λ (X : Equation). carriers_of spec X.parameters) E) k ≡ Some cs
+pub equation-at : (spec : Spec) (E : List Equation) (k : ℕ) (cs : List Carrier) → slice_get (map (λ (X : Equation). carriers_of spec X.parameters) E) k ≡ Some cs
     → (X : Equation) × (slice_get E k ≡ Some X) × (carriers_of spec X.parameters ≡ cs)
 equation-at spec [] k cs at = cc
 equation-at spec (X ∷ E) zero cs at = (X, refl, cc)

@@ -56,7 +56,7 @@ texts-closed spec (X ∷ E) = (
 -- ---- the equations of a formula are over the state
 
 module _ (m : Model) (names : ℕ → Name) where
-  abbrev AreOver : List Equation → Type 0
+  abbrev pub AreOver : List Equation → Type 0
   AreOver [] = ⊤
   AreOver (X ∷ E) = (X.parameters ≡ m.variables) × AreOver E
 
@@ -80,7 +80,7 @@ module _ (m : Model) (names : ℕ → Name) where
       over-with (has_equation f) sign n (right_side m names scope i f) _ (over f scope sign i E h)
   over (Formula.Fixpoint inner X f) scope sign n E h = (refl, over f ((X, n) ∷ scope) inner (suc n) E h)
 
-  all-over : (g : Formula) → AreOver (all_equations m names g)
+  pub all-over : (g : Formula) → AreOver (all_equations m names g)
   all-over g = by (is_fixpoint g)
     where
       by : (b : Bool) → AreOver (if b then equations m names [] Nu 0 g [] else (equation m names Nu 0 (right_side m names [] 1 g) ∷ equations m names [] Nu 1 g []))

@@ -1,0 +1,7 @@
+mod Carriers
+mod Exchanged
+mod Instances
+mod Moved
+mod Packed
+mod Properties
+mod Uniform

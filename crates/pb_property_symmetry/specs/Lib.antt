@@ -1,0 +1,5 @@
+pub mod Numbers
+pub mod Laws
+pub mod Properties
+pub mod Permutable
+pub mod Truth
