@@ -81,7 +81,7 @@ no_option command.Explain = unset (codes "progress") ∷ unset (codes "places") 
 no_option command.Compile = unset (codes "reached") ∷ []
 no_option command.Verify = unset (codes "reached") ∷ []
 no_option command.List = unset (codes "reached") ∷ []
-no_option command.Check = unset (codes "progress") ∷ unset (codes "status") ∷ unset (codes "counts") ∷ []
+no_option command.Check = unset (codes "progress") ∷ unset (codes "status") ∷ unset (codes "counts") ∷ unset (codes "symmetry") ∷ []
 no_option command.Why = unset (codes "progress") ∷ unset (codes "lines") ∷ []
 no_option _ = []
 
@@ -126,7 +126,7 @@ plain_request command.List alone = Input (task.List Declared)
 plain_request command.SolveCode alone = Input (task.SolveCode plain_solving Declared)
 plain_request command.Translate alone = Input (task.Translate (record { property = None; files = no_words }))
 plain_request command.Size alone = Input (task.Size (record { property = None; files = no_words }))
-plain_request command.Check alone = Check (record { solving = plain_solving; properties = no_words; status = false; counts = false; files = no_words })
+plain_request command.Check alone = Check (record { solving = plain_solving; properties = no_words; status = false; counts = false; symmetry = false; files = no_words })
 plain_request command.Why alone = Input (task.Why (record { workers = 1; progress = false; property = None; lines = false; files = no_words; some = omega arith; few = omega arith }))
 plain_request command.Rule alone = absurd alone
 plain_request command.Usage alone = Page (page.Usage None)
@@ -165,11 +165,12 @@ plain_read command.Translate alone = record { property = refl; files = refl }
 plain_read command.Size alone = record { property = refl; files = refl }
 plain_read command.Check alone =
     record {
-      solving = plain_solved (unset (codes "progress") ∷ unset (codes "status") ∷ unset (codes "counts") ∷ []) refl refl not_told;
+      solving = plain_solved (unset (codes "progress") ∷ unset (codes "status") ∷ unset (codes "counts") ∷ unset (codes "symmetry") ∷ []) refl refl not_told;
       properties =
           refl;
       status = not_set _ not_told;
       counts = not_set _ not_told;
+      symmetry = not_set _ not_told;
       files = refl;
     }
 plain_read command.Why alone = record { workers = refl; progress = not_set _ not_told; property = refl; lines = not_set _ not_told; files = refl }

@@ -53,6 +53,11 @@ abbrev pub counts_rule : Rule
 counts_rule =
     record (new_rule (codes "counts")) { long = Some (codes "counts"); action = Some SetTrue }
 
+-- `--symmetry`, with no word after it
+abbrev pub symmetry_rule : Rule
+symmetry_rule =
+    record (new_rule (codes "symmetry")) { long = Some (codes "symmetry"); action = Some SetTrue }
+
 -- `--progress`, with no value
 abbrev pub progress_rule : Rule
 progress_rule =
@@ -103,13 +108,19 @@ showing_shape name = record (new_shape name) {
   rules = workers_rule ∷ progress_rule ∷ property_rule ∷ lines_rule ∷ files_rule ∷ [];
 }
 
--- a command with `--workers`, `--progress`, `--solver`, `--status` and `--counts`, any number of
--- `--property`, and files
+-- a command with `--workers`, `--progress`, `--solver`, and any number of `--property`
+abbrev pub deciding_shape : List ℕ → Shape
+deciding_shape name = record (new_shape name) {
+  rules = workers_rule ∷ progress_rule ∷ solver_rule ∷ properties_rule ∷ [];
+}
+
+-- a command with `--workers`, `--progress`, `--solver`, `--status`, `--counts` and `--symmetry`,
+-- any number of `--property`, and files
 abbrev pub checking_shape : List ℕ → Shape
 checking_shape name = record (new_shape name) {
   rules =
       workers_rule ∷ progress_rule ∷ solver_rule ∷ properties_rule ∷ status_rule ∷ counts_rule
-      ∷ files_rule ∷ [];
+      ∷ symmetry_rule ∷ files_rule ∷ [];
 }
 
 -- a command that takes the number of a rule

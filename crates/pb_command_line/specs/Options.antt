@@ -78,6 +78,7 @@ pub record IsCheckingOf (rows : List Row) (o : Checking) : Type 0 where
   pub properties : AreWordsAt (codes "property") rows o.properties
   pub status : IsSetBy (first_of (codes "status") rows) o.status
   pub counts : IsSetBy (first_of (codes "counts") rows) o.counts
+  pub symmetry : IsSetBy (first_of (codes "symmetry") rows) o.symmetry
   pub files : AreWordsAt (codes "file") rows o.files
 
 -- the number of workers, whether progress is printed, the property, whether lines of instances are

@@ -3,7 +3,7 @@ ghost use Rattle.std.specs.Prelude.{◌≡◌, IfOk};
 ghost use Rattle.clap.specs.Simple.{App, Shape, app_of, new_shape, with_subcommand};
 ghost use Rattle.pb_command_line.specs.Line.{IsOwnCommand, IsOwnOption};
 ghost use Rattle.pb_command_line.specs.Line.{bare_program, checking_shape, command_line};
-ghost use Rattle.pb_command_line.specs.Line.{counting_shape};
+ghost use Rattle.pb_command_line.specs.Line.{counting_shape, deciding_shape};
 ghost use Rattle.pb_command_line.specs.Line.{exploring_shape, reached_rule};
 ghost use Rattle.pb_command_line.specs.Line.{explaining_shape, rule_shape, showing_shape};
 ghost use Rattle.pb_command_line.specs.Line.{solving_shape, translating_shape, usage_shape};
@@ -11,7 +11,7 @@ ghost use Rattle.pb_command_line.specs.Line.{counts_rule, files_rule, lines_rule
 ghost use Rattle.pb_command_line.specs.Line.{places_rule};
 ghost use Rattle.pb_command_line.specs.Line.{progress_rule, properties_rule, property_rule};
 ghost use Rattle.pb_command_line.specs.Line.{solver_rule};
-ghost use Rattle.pb_command_line.specs.Line.{status_rule, topic_rule, workers_rule};
+ghost use Rattle.pb_command_line.specs.Line.{status_rule, symmetry_rule, topic_rule, workers_rule};
 
 use clap::{Arg, ArgAction};
 use std::alloc::{AllocError, Global};
@@ -86,6 +86,15 @@ fn counts_option<'a>(alloc: Global) -> Arg<'a>
 {
     Arg::new(alloc, "counts")
         .long("counts")
+        .action(ArgAction::SetTrue)
+}
+
+// The option `--symmetry`, with no word after it.
+fn symmetry_option<'a>(alloc: Global) -> Arg<'a>
+    ensures { IsOwnOption symmetry_rule result }
+{
+    Arg::new(alloc, "symmetry")
+        .long("symmetry")
         .action(ArgAction::SetTrue)
 }
 
@@ -180,15 +189,22 @@ fn showing<'a>(alloc: Global, name: &'a str) -> Result<clap::Command<'a>, AllocE
         .arg(file_words(alloc))
 }
 
-// A command that takes the number of workers, the solver, the names of properties and files, and
-// reports the verdicts by the exit status, and counts.
+// A command that takes the number of workers, the solver and the names of properties.
+fn deciding<'a>(alloc: Global, name: &'a str) -> Result<clap::Command<'a>, AllocError>
+    ensures { IfOk result (IsOwnCommand (deciding_shape name.now)) }
+{
+    solving(alloc, name)?.arg(properties_option(alloc))
+}
+
+// A command that takes these and files, reports the verdicts by the exit status, and counts, and
+// uses symmetry.
 fn checking<'a>(alloc: Global, name: &'a str) -> Result<clap::Command<'a>, AllocError>
     ensures { IfOk result (IsOwnCommand (checking_shape name.now)) }
 {
-    solving(alloc, name)?
-        .arg(properties_option(alloc))?
+    deciding(alloc, name)?
         .arg(status_option(alloc))?
         .arg(counts_option(alloc))?
+        .arg(symmetry_option(alloc))?
         .arg(file_words(alloc))
 }
 

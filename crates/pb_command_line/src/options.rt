@@ -41,13 +41,15 @@ pub struct Translating {
 }
 
 /// How a model is checked, and which of its properties: all where none is named; whether the exit
-/// status reports the verdicts, whether lines of counts are written, and which files are checked.
+/// status reports the verdicts, whether lines of counts are written, whether one is explored of
+/// states that differ by a permutation of like elements, and which files are checked.
 #[derive(Drop)]
 pub struct Checking {
     pub solving: Solving,
     pub properties: Vec<String>,
     pub status: bool,
     pub counts: bool,
+    pub symmetry: bool,
     pub files: Vec<String>,
 }
 

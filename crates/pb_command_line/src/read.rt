@@ -197,6 +197,7 @@ pub(crate) fn checking_of(alloc: Global, options: &ArgMatches) -> Result<Checkin
         properties,
         status: is_set(options, "status"),
         counts: is_set(options, "counts"),
+        symmetry: is_set(options, "symmetry"),
         files,
     })
 }

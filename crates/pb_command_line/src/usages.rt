@@ -46,8 +46,8 @@ refusal. The manual: docs/MANUAL.md.\n";
 pub const VERSION: &str = "pbsolve 1.0\n";
 
 pub const CHECK_USAGE: &str = "pbsolve check [FILE ..] [--property NAME] [--status] [--counts] \
-[--workers N]\n  \
-[--solver NAME] [--progress] < INPUT\n\
+[--symmetry]\n  \
+[--workers N] [--solver NAME] [--progress] < INPUT\n\
 Input: a model\n\
 Output: whether each property holds, or each that is named, in the model's order\n\
 --property NAME: only this property; check accepts the option more than once\n\
@@ -56,6 +56,8 @@ false, 6 if none is false and one is unknown\n\
 --counts: after each verdict print how many instances were reached, how many of\n  \
 these call one outside the ranges, and how many vertices the game has; after\n  \
 all verdicts the steps that no reached state can take\n\
+--symmetry: explore one of the states that differ by a permutation of like\n  \
+elements of a sort, and after each verdict name the sort and its elements\n\
 --workers N: explore by at most N threads, 1 to 16 (1 if not given); the output\n  \
 is the same\n\
 --solver NAME: solve the game by this algorithm: zielonka (if not given) or lift\n\

@@ -14,3 +14,5 @@ mod Moves
 mod States
 pub mod Findings
 mod StepFindings
+mod Symmetries
+mod Notes

@@ -1,7 +1,7 @@
 -- What is found of the properties of a model, and what a fault says of the model that bytes say.
 use Rattle.std.specs.Prelude.{◌≡◌, ◌⊎◌, ◌<◌, ◌&&◌, not, ℕ, Bool, true, false, List, [], ◌∷◌, ◌++◌}
 use Rattle.std.specs.Prelude.{if◌then◌else◌, Option, Some, None, Contains, map, string_bytes}
-use Rattle.std.specs.Prelude.{IfOk, Result, String}
+use Rattle.std.specs.Prelude.{IfOk, Result, String, drop}
 use Rattle.std.specs.declared.alloc.Global.{Global}
 use Rattle.std.specs.List.{All, list_any, slice_get}
 use Rattle.std.specs.Option.{option_map_or}
@@ -248,17 +248,24 @@ abbrev pub property_name_at : ModelForm → ℕ → List ℕ
 property_name_at model place =
     option_map_or (λ (p : PropertyForm). p.name.text) (slice_get model.properties place) []
 
--- the lines of all that is found, in order
-abbrev pub found_lines : Bool → ModelForm → List PropertyFinding → List ℕ
-found_lines counts model [] = []
-found_lines counts model (f ∷ fs) =
-    finding_lines counts (property_name_at model f.place) f.finding ++ found_lines counts model fs
+-- the first of further lines, where there are such
+abbrev pub first_note : List (List ℕ) → List ℕ
+first_note [] = []
+first_note (n ∷ ns) = n
 
--- these are the lines of what is found of the properties
-abbrev pub AreFoundLines : Bool → List Property → List PropertyFinding → String Global → Type 0
-AreFoundLines counts properties findings lines =
+-- the lines of all that is found, in order, each followed by a further line
+abbrev pub found_lines : Bool → ModelForm → List (List ℕ) → List PropertyFinding → List ℕ
+found_lines counts model notes [] = []
+found_lines counts model notes (f ∷ fs) =
+    finding_lines counts (property_name_at model f.place) f.finding
+    ++ (first_note notes ++ found_lines counts model (drop 1 notes) fs)
+
+-- these are the lines of what is found of the properties, with further ones
+abbrev pub AreFoundLines :
+    Bool → List Property → List (List ℕ) → List PropertyFinding → String Global → Type 0
+AreFoundLines counts properties notes findings lines =
     (model : ModelForm) → model.properties ≡ map property_form properties
-    → string_bytes lines ≡ found_lines counts model findings
+    → string_bytes lines ≡ found_lines counts model notes findings
 
 -- the text was put behind what stood in the string
 abbrev pub Pushes : List ℕ → (old new : String Global) → Type 0

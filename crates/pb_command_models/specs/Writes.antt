@@ -18,6 +18,8 @@ use Rattle.pb_command_line.specs.declared.status.Status.{Status}
 use Rattle.pb_command_models.specs.declared.step_finding.StepFinding.{StepFinding}
 use Rattle.pb_command_models.specs.Models.{ArePropertiesFound, IsUnchecked, IsUntranslated, asked_names}
 use Rattle.pb_command_models.specs.Models.{found_lines}
+use Rattle.pb_command_models.specs.Symmetries.{AreSymmetryLines}
+use Rattle.pb_model_properties.specs.Asked.{asked_places}
 use Rattle.pb_command_models.specs.ReachedSteps.{AreStepsFoundWhere, impossible_lines, status_of_checked}
 use Rattle.pb_command_models.specs.ReachedSteps.{step_lines}
 
@@ -31,15 +33,18 @@ lines_of_steps {bytes} {model} counts said steps =
     ++ impossible_lines counts (impossible_step_names said.protocol)
 
 -- the exit status and the lines that tell what is found of each property that is asked for, of the
--- protocol that the bytes say, and of each step, where counts are asked for
+-- protocol that the bytes say, and of each step, where counts are asked for; where symmetry is, a
+-- line after each verdict has the elements that may be permuted
 abbrev pub WritesVerdicts : Checking → List ℕ → Status → List ℕ → Type 0
 WritesVerdicts options bytes status written =
     (model : ModelForm) × (findings : List PropertyFinding) × (steps : List StepFinding)
-    × (said : IsModelOf bytes model)
+    × (notes : List (List ℕ)) × (said : IsModelOf bytes model)
     × ArePropertiesFound options.counts said.protocol model (asked_names options) findings
     × AreStepsFoundWhere options.counts model steps
+    × AreSymmetryLines options.symmetry said.protocol
+    (asked_places (asked_names options) model.properties) notes
     × (status ≡ status_of_checked options.status findings steps)
-    × (written ≡ found_lines options.counts model findings
+    × (written ≡ found_lines options.counts model notes findings
     ++ lines_of_steps options.counts said steps)
 
 -- of some status, which is that of the result where there is one, this is written

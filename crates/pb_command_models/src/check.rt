@@ -6,10 +6,11 @@ ghost use Rattle.pb_command_models.specs.Writes.{DeliversVerdicts, ReportsVerdic
 
 use crate::decision::{DecisionOptions, findings_of};
 use crate::finding_lines::lines_of;
-use crate::joint::satisfied_together;
+use crate::joint::satisfied_too;
 use crate::property_text::asked_texts;
 use crate::reached_steps::steps_on;
 use crate::step_lines::{push_lines_of_steps, status_of_checked};
+use crate::symmetry::{SymmetryFindings, symmetry_findings};
 use pb_base::OrMemory;
 use pb_command_faults::{SolveError, SolveFault};
 use pb_command_line::{Checking, Status};
@@ -49,12 +50,18 @@ fn checked_report<R: Threads + Sync, G: Progress + Sync>(
     let deciding = DecisionOptions {
         solving: solve_options(options.solving),
         counts: options.counts,
+        symmetry: options.symmetry,
     };
-    let satisfied = satisfied_together(context, &solved, &places, deciding)?;
+    let symmetry = symmetry_findings(context, input, &solved, &places, deciding)?;
+    let SymmetryFindings {
+        satisfied,
+        lines: notes,
+    } = symmetry;
+    let satisfied = satisfied_too(context, &solved, &places, satisfied, deciding)?;
     let findings = findings_of(context, input, texts, &satisfied, deciding)?;
     let steps = steps_on(context, &solved, options)?;
     let properties = &solved.typed.model.properties;
-    let mut lines = lines_of(alloc, properties, &findings, options.counts)?;
+    let mut lines = lines_of(alloc, properties, &findings, &notes, options.counts)?;
     push_lines_of_steps(&mut lines, &solved, &steps, options.counts)?;
     let status = status_of_checked(&findings, &steps, options.status);
     Ok(CheckReport { lines, status })
@@ -71,6 +78,10 @@ fn checked_report<R: Threads + Sync, G: Progress + Sync>(
 /// Where counts are asked for, three lines with them follow each verdict, and after all a line
 /// names each step that can be taken in no reached state: those of the model, then those of the
 /// protocol that come to none in it.
+/// Where symmetry is requested, a line after each verdict names elements of a sort that may be
+/// permuted where the property is decided: of the states that differ by such a permutation one is
+/// explored (Ip and Dill 1996), and where that shows the property to be satisfied, there is no more
+/// to do. Verdicts are those without symmetry.
 ///
 /// Each text is explored and solved once, as `solve_text` solves a text; those of negations only
 /// where a property isn't satisfied and instances outside were called, and those that ask for steps

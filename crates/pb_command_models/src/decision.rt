@@ -20,11 +20,12 @@ use pb_sorts::Counting;
 use std::alloc::AllocError;
 use std::thread::Threads;
 
-/// How texts are solved, and whether counts are asked for.
+/// How texts are solved, and whether counts and symmetry are requested.
 #[derive(Clone, Copy)]
 pub(crate) struct DecisionOptions {
     pub solving: SolveOptions,
     pub counts: bool,
+    pub symmetry: bool,
 }
 
 /// Whether the instances nearest to the initial one of the negation's text show that the negation

@@ -1,7 +1,8 @@
 //! The lines that tell what is found of properties, and the exit status.
-ghost use Rattle.std.specs.Prelude.{◌≡◌, ◌<◌, length, IfOk, OnOk};
+ghost use Rattle.std.specs.Prelude.{◌≡◌, ◌<◌, drop, length, map, string_bytes, IfOk, OnOk};
 ghost use Rattle.std.specs.List.{All, list_any};
 ghost use Rattle.pb_command_models.specs.Models.{AreFoundLines, Pushes, finding_lines, lines_behind};
+ghost use Rattle.pb_command_models.specs.Models.{first_note};
 ghost use Rattle.pb_command_models.specs.Models.{refuses, says_false, says_unknown, status_of_findings};
 ghost use Rattle.pb_command_models.specs.Models.{verdict_of};
 
@@ -98,7 +99,19 @@ fn push_finding(
     }
 }
 
-/// The lines of what is found of these properties.
+// Adds the further line at a place, if there is one.
+fn push_note(lines: &mut String, notes: &[String], place: usize) -> Result<(), AllocError>
+    ensures { OnOk result
+        (Pushes (first_note (drop place (map string_bytes notes.now))) lines.old lines.new) }
+{
+    match notes.get(place) {
+        Some(note) => lines.push_str(note),
+        None => Ok(()),
+    }
+}
+
+/// The lines of what is found of these properties, each followed by a further line, where there is
+/// one at its place.
 ///
 /// # Errors
 /// Memory was refused.
@@ -106,15 +119,18 @@ pub(crate) fn lines_of(
     alloc: Global,
     properties: &[Property],
     findings: &[PropertyFinding],
+    notes: &[String],
     counts: bool,
 ) -> Result<String, AllocError>
     requires { All (λ found. found.place < length properties.now) findings.now }
-    ensures { IfOk result (AreFoundLines counts properties.now findings.now) }
+    ensures { IfOk result
+        (AreFoundLines counts properties.now (map string_bytes notes.now) findings.now) }
 {
     let mut lines = String::new(alloc);
-    for found in findings {
+    for (place, found) in findings.iter().enumerate() {
         let name = &properties[found.place].name.text;
         push_finding(&mut lines, name, found.finding, counts)?;
+        push_note(&mut lines, notes, place)?;
     }
     Ok(lines)
 }

@@ -20,6 +20,7 @@ mod property_text;
 mod reached_steps;
 mod step_finding;
 mod step_lines;
+mod symmetry;
 mod told;
 mod why;
 
