@@ -52,6 +52,11 @@ TURNED_ON = (
 # One file that is answered, and one that is refused: their lines are kept until both are known.
 TWO_FILES = (1, b"/dev/stdin: r false\n", b"/dev/null: P02 line 1 column 1\n")
 SINKS = b'0 1 0 0 "false";\n1 0 0 1 "true";\n'
+# Elements of a sort that may be permuted.
+LIKES = (
+    b"sort Id = struct a | b | c; model state x(i: Id): Bool; step s(i: Id): (forall j: Id . !x(j)) -> x(i) := true; init false; "
+    b"property one = always (forall i, j: Id . x(i) && x(j) => i == j);"
+)
 SIZES = (
     b"state on 2 ^ 9\nstate at 9\nelements 10\nstates 4608\nstep go 9\nstep rest 1\nsteps 10\nproperty off 1\n"
 )
@@ -70,6 +75,7 @@ CASES = [
     ("game", "data", DATA, b"parity 4;\n" + SINKS + b'2 1 0 1 "Y(1)";\n3 1 0 2 "Y(2)";\n4 1 0 3 "Y(3)";\n'),
     ("solution", "data", DATA, b"Y(1) true\nY(2) true\nY(3) true\n"),
     ("check /dev/stdin /dev/null", "model", MODEL, TWO_FILES),
+    ("check --symmetry", "likes", LIKES, b"one true\nsymmetry Id a b c\n"),
     ("why", "model", MODEL, LASSO),
     ("why", "protocol", PROTOCOL, TURNED_ON),
     ("size", "protocol", PROTOCOL, SIZES),
